@@ -1,0 +1,19 @@
+//! Numbers with names of their own.
+
+/// The greatest slot number that a row id may name: a page has at most 1,020 slots.
+pub const MAX_SLOT: u16 = 1019;
+
+/// A log sequence number: the offset of a record's first byte in the log, 0 for none.
+#[derive(Clone, Copy, Debug, PartialEq, Eq, PartialOrd, Ord)]
+pub struct Lsn(pub u64);
+
+/// A transaction's id, given in the order of the begins, from 1.
+#[derive(Clone, Copy, Debug, PartialEq, Eq, PartialOrd, Ord)]
+pub struct TxnId(pub u32);
+
+/// A row id: the page's number and the slot's number in that page. It may name a place that no file has.
+#[derive(Clone, Copy, Debug, PartialEq, Eq, PartialOrd, Ord)]
+pub struct Rid {
+    pub page: u32,
+    pub slot: u16,
+}
