@@ -16,9 +16,9 @@ mod slots;
 
 pub use areas::Area;
 pub use bindings::Names;
-pub use lines::{Line, Name, Script, Target, Which};
+pub use lines::{Line, MAX_BYTES, MAX_LINES, Name, Script, Target, Which};
 pub use memory::NoMemory;
 pub use numbers::{Lsn, MAX_SLOT, Rid, TxnId};
 pub use operations::{Op, Reply};
 pub use rows::{MAX_ROW, Row};
-pub use slots::Slot;
+pub use slots::{CAPACITY, SLOT_ENTRY, Slot};

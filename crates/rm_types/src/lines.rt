@@ -92,7 +92,13 @@ pub struct Script {
     pub lines: Vec<Line>,
 }
 
-/// What a script, or a run, has too much of.
+/// The most bytes that a script has.
+pub const MAX_BYTES: usize = 16_777_216;
+
+/// The most lines that a script has.
+pub const MAX_LINES: usize = 100_000;
+
+/// What a script has too much of.
 #[derive(Clone, Copy, Debug, PartialEq, Eq)]
 pub enum Which {
     Bytes,

@@ -6,7 +6,7 @@ use crate::memory::NoMemory;
 use std::alloc::Global;
 use std::marker::Model;
 
-/// The most bytes that a row has: what fits in a page beside its own slot entry.
+/// The most bytes that a row has: what an empty page has beside the row's entry in its directory.
 pub const MAX_ROW: usize = 4076;
 
 /// A row's bytes, at most [`MAX_ROW`].
@@ -17,12 +17,13 @@ pub struct Row {
 
 impl Model for Row {
     ghost use Rattle.std.specs.Prelude.{ℕ, List, ◌≤◌, length};
+    ghost use Rattle.rm_types.specs.declared.rows.TheConstants.{MAX_ROW};
 
     ghost Value = { List ℕ };
 
     ghost view = { λ row. row.bytes.items };
 
-    ghost invariant = { λ row. length row.bytes.items ≤ 4076 };
+    ghost invariant = { λ row. length row.bytes.items ≤ MAX_ROW };
 }
 
 impl Row {

@@ -1,0 +1,43 @@
+-- How replies are written.
+use Rattle.std.specs.Prelude.{ℕ, ◌+◌, ◌/◌, ◌%◌, nat_lt, if◌then◌else◌, List, [], ◌∷◌, ◌++◌, codes, decimal}
+use Rattle.std.specs.List.{flat_map}
+use Rattle.rm_types.specs.declared.numbers.Rid.{Rid}
+use Rattle.rm_types.specs.declared.operations.Reply.{Reply}
+use Rattle.rm_types.specs.declared.operations.Reply.TheVariants as reply
+
+-- one hexadecimal digit, in lower case
+abbrev pub hex_digit : ℕ → ℕ
+hex_digit n = if nat_lt n 10 then 48 + n else 87 + n
+
+-- a byte as two of them
+abbrev pub hex_byte : ℕ → List ℕ
+hex_byte byte = hex_digit (byte / 16) ∷ hex_digit (byte % 16) ∷ []
+
+-- a row as two digits for each byte
+abbrev pub hex : List ℕ → List ℕ
+hex row = flat_map hex_byte row
+
+-- a row as it is printed: an empty one as a dash
+abbrev pub shown : List ℕ → List ℕ
+shown [] = codes "-"
+shown (byte ∷ bytes) = hex (byte ∷ bytes)
+
+-- the page and the slot, with a dot between
+abbrev pub place : Rid → List ℕ
+place rid = decimal rid.page ++ codes "." ++ decimal rid.slot
+
+-- a reply as one line
+abbrev pub text_of : Reply → List ℕ
+text_of (reply.Began id) = codes "begin " ++ decimal id.0 ++ codes "\n"
+text_of (reply.Inserted rid) = codes "inserted " ++ place rid ++ codes "\n"
+text_of reply.NoSpace = codes "nospace\n"
+text_of (reply.Row row) = codes "row " ++ shown row ++ codes "\n"
+text_of reply.NoRow = codes "norow\n"
+text_of reply.BadRid = codes "badrid\n"
+text_of reply.Committed = codes "committed\n"
+text_of reply.Unbound = codes "unbound\n"
+text_of reply.Skipped = codes "skipped\n"
+
+-- the replies, each as its line
+abbrev pub texts_of : List Reply → List ℕ
+texts_of replies = flat_map text_of replies

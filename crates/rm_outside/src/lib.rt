@@ -1,0 +1,12 @@
+//! The outside of the record manager, as traits: a volume of five areas, a source of bytes and a
+//! sink of bytes.
+//!
+//! Each keeps a count of faults that never falls, and answers [`Failed`] only where that count rose
+//! in the same call. So a caller that reports a fault can show that the outside had one.
+#![tactic(auto)]
+
+mod streams;
+mod volume;
+
+pub use streams::{Sink, Source};
+pub use volume::{Failed, Volume};
