@@ -1,6 +1,5 @@
 -- What a source gives and what a sink takes, where they tell.
-use Rattle.std.specs.Prelude.{◌≡◌, ℕ, List, [], ◌++◌, length, take, Option, Some, None, Result, Ok, Err, ◌≤◌, ◌<◌}
-use Rattle.rm_outside.specs.Faults.{Rises}
+use Rattle.std.specs.Prelude.{◌≡◌, ℕ, List, ◌++◌, Option, Some, None}
 
 -- the bytes that were left are these, and then those that are left now
 abbrev pub Gives : Option (List ℕ) → Option (List ℕ) → List ℕ → Type 0

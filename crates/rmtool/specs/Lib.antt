@@ -1,0 +1,3 @@
+pub mod Status
+pub mod Reading
+pub mod Answer
