@@ -4,3 +4,15 @@
 //!
 //! The crate has no code. Its functions are laws: each ensures something of the definitions alone.
 #![tactic(auto)]
+
+ghost use Rattle.rm_model.specs.Laws.{EveryScriptRuns, RunsAreOne};
+
+/// Every script draws replies, in every state.
+pub fn every_script_runs()
+    ensures { EveryScriptRuns }
+{}
+
+/// From one state a script draws one list of replies, and leaves one state.
+pub fn a_script_has_one_run()
+    ensures { RunsAreOne }
+{}
