@@ -34,7 +34,7 @@ begin_step = record { object = refl; comes = (refl, refl, refl); names = refl }
 
 insert_step : Step begun (line.Insert 0 row) (reply.Inserted rid) inserted
 insert_step =
-    record { object = (refl, rows_of-set_row begun.core.pages rid row (lit< tt) refl); comes = (refl, (first, refl), refl); names = refl }
+    record { object = (refl, rows_of-set_row begun.core.pages rid row (lit< tt)); comes = (refl, (first, refl), refl); names = refl }
 
 read_step : Step inserted (line.Read (target.Name 0)) (reply.Row row) inserted
 read_step =

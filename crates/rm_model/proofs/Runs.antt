@@ -1,11 +1,10 @@
 -- What holds of every step and of every run of a session.
-use Rattle.std.proofs.Common.{◌≡◌, ℕ, zero, suc, ◌+◌, ◌-◌, ◌≤◌, ◌<◌, ◌==◌, if◌then◌else◌, true, false, List, [], ◌∷◌, ◌++◌, length, Option, Some, None, ◌⊎◌, inl, inr, refl, sym, ap, ◌∙◌, subst, arith, eq-eqb, ne_eqb, take_all, get_or-set_same, get_or-set_other, length-set}
+use Rattle.std.proofs.Common.{◌≡◌, ℕ, zero, suc, ◌+◌, ◌≤◌, ◌<◌, ◌==◌, true, false, List, [], ◌∷◌, ◌++◌, length, Option, Some, None, ◌⊎◌, inl, inr, refl, sym, ap, ◌∙◌, subst, arith, eq-eqb, ne_eqb, get_or-set_same, get_or-set_other, length-set}
 use Rattle.std.proofs.lemmas.Bool.{cases_lt, cases_eq, cases_order, cases_Bool, true≢false}
-use Rattle.std.proofs.lemmas.List.{drop_all, get_or_past, get_or_push, get_or_append_left, length_push}
 use Rattle.rm_types.specs.declared.numbers.Rid.{Rid}
 use Rattle.rm_types.specs.declared.numbers.TheConstants.{MAX_SLOT}
 use Rattle.rm_types.specs.declared.slots.Slot.{Slot}
-use Rattle.rm_types.specs.declared.slots.Slot.TheVariants.{Vacant, Row}
+use Rattle.rm_types.specs.declared.slots.Slot.TheVariants.{Row}
 use Rattle.rm_types.specs.declared.slots.TheConstants.{CAPACITY, SLOT_ENTRY}
 use Rattle.rm_types.specs.declared.lines.Line.{Line}
 use Rattle.rm_types.specs.declared.operations.Op.{Op}
@@ -13,51 +12,31 @@ use Rattle.rm_types.specs.declared.operations.Op.TheVariants as op
 use Rattle.rm_types.specs.declared.operations.Reply.{Reply}
 use Rattle.rm_types.specs.declared.operations.Reply.TheVariants as reply
 use Rattle.rm_types.specs.Lines.{op_of}
-use Rattle.rm_model.specs.Pages.{used, row_of, row_at, set_slot}
+use Rattle.rm_model.specs.Pages.{used, set_slot}
 use Rattle.rm_model.specs.Object.{Rows, with_row, IsOutside, MayReply}
 use Rattle.rm_model.specs.Session.{page_at, rows_of, set_row, HasRoom, LacksRoom, IsFirstWithRoom, Core, IsPlaceFor, IsInside, Comes, names_after, State, Step, Run}
+use Rattle.rm_model.proofs.Slots.{row_at-set_slot, row_at_past}
 use Rattle.rm_model.specs.Laws.{EveryScriptRuns, RunsAreOne}
 
--- a slot set behind the directory is pushed
-pub set_slot_behind : (slots : List Slot) (number : ℕ) (slot : Slot) → number ≡ length slots → set_slot slots number slot ≡ slots ++ slot ∷ []
-set_slot_behind slots number slot behind =
-    let none : number - length slots ≡ 0 = omega arith in
-    rw (none, take_all number slots (omega arith), drop_all (number + 1) slots (omega arith)) refl
-
-pub row_at-push : (slots : List Slot) (slot : Slot) (at : ℕ) → row_at (slots ++ slot ∷ []) at ≡ (if at == length slots then row_of slot else row_at slots at)
-row_at-push slots slot at =
-    elim (cases_order at (length slots)) [
-      | inl same ↦
-          let test : (at == length slots) ≡ true = eq-eqb at (length slots) same in
-          rw (get_or_push slots slot Vacant at (sym same), test) refl
-      | inr (inl below) ↦
-          let test : (at == length slots) ≡ false = ne_eqb at (length slots) (λ same. omega arith) in
-          rw (get_or_append_left slots (slot ∷ []) Vacant at below, test) refl
-      | inr (inr above) ↦
-          let test : (at == length slots) ≡ false = ne_eqb at (length slots) (λ same. omega arith) in
-          rw (get_or_past (slots ++ slot ∷ []) at Vacant (omega (arith, length_push slots slot)), test, get_or_past slots at Vacant (omega arith)) refl
-    ]
-
--- a row set behind the directory of a page of the file is one more row
-pub rows_at-set_row : (pages : List (List Slot)) (rid place : Rid) (row : List ℕ) → rid.page < length pages → rid.slot ≡ length (page_at pages rid.page) → rows_of (set_row pages rid row) place ≡ with_row (rows_of pages) rid row place
-rows_at-set_row pages rid place row in_file behind =
+-- A row set in a page of the file is one more row.
+rows_at-set_row : (pages : List (List Slot)) (rid place : Rid) (row : List ℕ) → rid.page < length pages → rows_of (set_row pages rid row) place ≡ with_row (rows_of pages) rid row place
+rows_at-set_row pages rid place row in_file =
     let slots : List Slot = page_at pages rid.page in
     elim (cases_eq place.page rid.page) [
       | inl same ↦
           let test : (place.page == rid.page) ≡ true = eq-eqb place.page rid.page same in
-          rw (test, same, get_or-set_same pages rid.page (set_slot slots rid.slot (Row row)) [] in_file, set_slot_behind slots rid.slot (Row row) behind, behind) (row_at-push slots (Row row) place.slot)
+          rw (test, same, get_or-set_same pages rid.page (set_slot slots rid.slot (Row row)) [] in_file) (row_at-set_slot slots rid.slot place.slot (Row row))
       | inr other ↦
           let test : (place.page == rid.page) ≡ false = ne_eqb place.page rid.page other in
           rw (test, get_or-set_other pages rid.page place.page (set_slot slots rid.slot (Row row)) [] other) refl
     ]
 
-pub rows_of-set_row : (pages : List (List Slot)) (rid : Rid) (row : List ℕ) → rid.page < length pages → rid.slot ≡ length (page_at pages rid.page) → rows_of (set_row pages rid row) ≡ with_row (rows_of pages) rid row
-rows_of-set_row pages rid row in_file behind = λ i place. rows_at-set_row pages rid place row in_file behind i
+pub rows_of-set_row : (pages : List (List Slot)) (rid : Rid) (row : List ℕ) → rid.page < length pages → rows_of (set_row pages rid row) ≡ with_row (rows_of pages) rid row
+rows_of-set_row pages rid row in_file = λ i place. rows_at-set_row pages rid place row in_file i
 
 -- behind the directory of a page no row stands
 pub no_row_behind : (pages : List (List Slot)) (rid : Rid) → rid.slot ≡ length (page_at pages rid.page) → rows_of pages rid ≡ None
-no_row_behind pages rid behind =
-    rw (get_or_past (page_at pages rid.page) rid.slot Vacant (omega arith)) refl
+no_row_behind pages rid behind = row_at_past (page_at pages rid.page) rid.slot (omega arith)
 
 -- one page alone is the first with room
 pub first_with_room_once : (pages : List (List Slot)) (len page other : ℕ) → IsFirstWithRoom pages len page → IsFirstWithRoom pages len other → page ≡ other
@@ -110,7 +89,7 @@ insert_draws old row =
       | inl active ↦ elim (room_or_none old.pages (length row)) [
         | inl first ↦
             let rid : Rid = record { page = first.0; slot = length (page_at old.pages first.0) } in
-            (reply.Inserted rid, record old { pages = set_row old.pages rid row }, (no_row_behind old.pages rid refl, rows_of-set_row old.pages rid row first.1.in_file refl), (active, (first.1, refl), refl))
+            (reply.Inserted rid, record old { pages = set_row old.pages rid row }, (no_row_behind old.pages rid refl, rows_of-set_row old.pages rid row first.1.in_file), (active, (first.1, refl), refl))
         | inr lacking ↦ (reply.NoSpace, old, refl, (active, lacking, refl))
       ]
       | inr idle ↦ (reply.Skipped, old, refl, (idle, refl))

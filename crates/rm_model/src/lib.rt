@@ -5,7 +5,12 @@
 //! The crate has no code. Its functions are laws: each ensures something of the definitions alone.
 #![tactic(auto)]
 
-ghost use Rattle.rm_model.specs.Laws.{EveryScriptRuns, RunsAreOne};
+ghost use Rattle.rm_model.specs.Laws.{SetsOneSlot, EveryScriptRuns, RunsAreOne};
+
+/// Setting a slot of a page changes that slot and no other, and adds slots only up to it.
+pub fn set_changes_one_slot()
+    ensures { SetsOneSlot }
+{}
 
 /// Every script draws replies, in every state.
 pub fn every_script_runs()
