@@ -116,6 +116,9 @@ pub used_entry : (slots : List Slot) (number : ℕ) → number < length slots �
 used_entry slots number inside =
     omega (arith, get_or-le-sum_by row_length slots number Vacant inside)
 
+pub row_length-le-used : (slots : List Slot) (number : ℕ) → row_length (get_or slots number Vacant) ≤ used slots
+row_length-le-used slots number = omega (arith, rows_split slots number)
+
 row_length_of : (slot : Slot) (row : List ℕ) → row_of slot ≡ Some row → row_length slot ≡ length row
 row_length_of Vacant row is = absurd (none-some row is)
 row_length_of (Row bytes) row is = ap length (same_Some bytes row is)
