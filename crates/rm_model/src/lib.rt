@@ -4,3 +4,20 @@
 //!
 //! The crate has no code. Its functions are laws: each ensures something of the definitions alone.
 #![tactic(auto)]
+
+ghost use Rattle.rm_model.specs.Laws.{SetsOneSlot, EveryScriptRuns, RunsAreOne};
+
+/// Setting a slot of a page changes that slot and no other, and adds slots only up to it.
+pub fn set_changes_one_slot()
+    ensures { SetsOneSlot }
+{}
+
+/// Every script draws replies, in every state.
+pub fn every_script_runs()
+    ensures { EveryScriptRuns }
+{}
+
+/// From one state a script draws one list of replies, and leaves one state.
+pub fn a_script_has_one_run()
+    ensures { RunsAreOne }
+{}
