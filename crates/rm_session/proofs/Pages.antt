@@ -38,10 +38,10 @@ lacks_room_at pages number len page inside is has none test =
     ])
 
 -- a row set behind the directory of the first page with room is inserted
-pub insert_is : (pages : List PageValue) (page new : PageValue) (number slot : ℕ) (row : List ℕ) → IsFirstWithRoom (slots_of pages) (length row) number → page ≡ get_or pages number page → slot ≡ length page.slots → new ≡ record { lsn = record { 0 = 0 }; slots = set_slot page.slots slot (Row row) } → Inserts (slots_of pages) row (reply.Inserted (record { page = number; slot = slot })) (slots_of (set pages number new))
-insert_is pages page new number slot row first is behind made =
+pub insert_is : (pages : List PageValue) (page new : PageValue) (number slot : ℕ) (row : List ℕ) → IsFirstWithRoom (slots_of pages) (length row) number → slot ≡ length (get_or pages number page).slots → new ≡ record { lsn = record { 0 = 0 }; slots = set_slot (get_or pages number page).slots slot (Row row) } → Inserts (slots_of pages) row (reply.Inserted (record { page = number; slot = slot })) (slots_of (set pages number new))
+insert_is pages page new number slot row first behind made =
     let inside : number < length pages = omega (arith, first.in_file, length-slots_of pages) in
-    let slots : page_at (slots_of pages) number ≡ page.slots = page_at-slots_of pages number page inside ∙ ap (λ (found : PageValue). found.slots) (sym is) in
+    let slots : page_at (slots_of pages) number ≡ (get_or pages number page).slots = page_at-slots_of pages number page inside in
     ((first, behind ∙ ap (λ (found : List Slot). length found) (sym slots)), slots_of-set pages number new ∙ rw (made, slots) refl)
 
 -- an insert's reply is drawn by a session in a transaction

@@ -1,14 +1,15 @@
 //! One session over a file of pages in memory: it does a line at a time, and answers its reply.
 //!
-//! Each turn is a step of the definition of a run (`Step`): the reply is one that the one-thread object
-//! may give over the rows of the pages, and the first row of those that stand for it that comes. A turn
-//! that lacks memory leaves the session as it was. There are fewer than 2^32 pages, so that each has a
-//! number of its own.
+//! Every turn is one step of a run as rm_model defines it (`Step`). The pages are all that the session
+//! knows of its rows, and each row stands where its insert was told. There are fewer than 2^32 pages, so
+//! that a row id has a number for each. A turn that lacks memory leaves the session as it was.
 #![tactic(auto)]
 
 mod rows;
 
-ghost use Rattle.std.specs.Prelude.{◌≡◌, ◌+◌, ◌<◌, ◌≤◌, ◌^◌, IfOk, OnErr};
+ghost use Rattle.std.specs.Prelude.{◌≡◌, ◌+◌, ◌<◌, ◌≤◌, ◌^◌, length, IfOk, OnErr};
+ghost use Rattle.rm_model.specs.Session.{State, Step, names_after, fresh};
+ghost use Rattle.rm_session.specs.Answers.{slots_of, Draws};
 
 use rm_page::Page;
 use rm_types::{Line, Names, NoMemory, Op, Reply, Rid, Row, TxnId};
@@ -25,10 +26,6 @@ pub struct Session {
 }
 
 impl Model for Session {
-    ghost use Rattle.std.specs.Prelude.{◌<◌, ◌^◌, length};
-    ghost use Rattle.rm_model.specs.Session.{State};
-    ghost use Rattle.rm_session.specs.Answers.{slots_of};
-
     ghost Value = { State };
 
     ghost view = { λ session. record { core = record { pages = slots_of session.pages.items; next = session.next; active = session.active }; names = session.names } };
@@ -37,9 +34,6 @@ impl Model for Session {
 }
 
 impl Session {
-    ghost use Rattle.rm_model.specs.Session.{Step, fresh};
-    ghost use Rattle.rm_session.specs.Answers.{Draws};
-
     /// A session over `pages` empty pages, before its first transaction.
     ///
     /// # Errors
@@ -120,7 +114,7 @@ impl Session {
         if !self.active {
             return Ok(Reply::Skipped);
         }
-        rows::read(&self.pages, rid)
+        rows::read(*self.pages.allocator(), &self.pages, rid)
     }
 
     fn commit(&mut self) -> Reply
@@ -135,15 +129,14 @@ impl Session {
     }
 }
 
-ghost use Rattle.rm_model.specs.Session.{names_after};
-
 // An insert that found its place binds its name.
 fn bind(names: &mut Names, line: &Line, reply: &Reply)
     ensures { names.new ≡ names_after line.now reply.now names.old }
 {
-    if let Line::Insert(name, _) = line {
-        if let Reply::Inserted(rid) = reply {
-            names.bind(*name, *rid);
-        }
+    if let (Line::Insert(name, _), Reply::Inserted(rid)) = (line, reply) {
+        names.bind(*name, *rid);
     }
 }
+
+#[cfg(test)]
+mod tests;

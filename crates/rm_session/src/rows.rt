@@ -43,14 +43,13 @@ fn first_with_room(pages: &[Page], len: usize) -> Option<u32>
 }
 
 // Inserts the row behind the directory of the first page that has room. An error leaves the pages as they were.
-pub fn insert(pages: &mut Vec<Page>, row: &Row) -> Result<Reply, NoMemory>
-    requires { length pages.old.items < 2 ^ 32 }
-    ensures ok { IfOk result (λ reply. Inserts (slots_of pages.old.items) row.now reply (slots_of pages.new.items)) }
-    ensures count { length pages.new.items ≡ length pages.old.items }
-    ensures err { OnErr result (pages.new.items ≡ pages.old.items) }
+pub fn insert(pages: &mut [Page], row: &Row) -> Result<Reply, NoMemory>
+    requires { length pages.old < 2 ^ 32 }
+    ensures ok { IfOk result (λ reply. Inserts (slots_of pages.old) row.now reply (slots_of pages.new)) }
+    ensures err { OnErr result (pages.new ≡ pages.old) }
 {
     let bytes = row.as_slice();
-    let Some(number) = first_with_room(pages.as_slice(), bytes.len()) else {
+    let Some(number) = first_with_room(pages, bytes.len()) else {
         return Ok(Reply::NoSpace);
     };
     let page = &mut pages[number as usize];
@@ -75,15 +74,15 @@ fn row_at(pages: &[Page], rid: Rid) -> Option<&[u8]>
     pages[rid.page as usize].row(rid.slot)
 }
 
-// Reads the row at a row id.
-pub fn read(pages: &Vec<Page>, rid: Rid) -> Result<Reply, NoMemory>
-    ensures { IfOk result (λ reply. Reads (slots_of pages.now.items) rid reply) }
+// Reads the row at a row id, into memory of the allocator.
+pub fn read(alloc: Global, pages: &[Page], rid: Rid) -> Result<Reply, NoMemory>
+    ensures { IfOk result (λ reply. Reads (slots_of pages.now) rid reply) }
 {
     if !is_inside(pages, rid) {
         return Ok(Reply::BadRid);
     }
     Ok(match row_at(pages, rid) {
-        Some(bytes) => Reply::Row(Row::from_slice(*pages.allocator(), bytes)?),
+        Some(bytes) => Reply::Row(Row::from_slice(alloc, bytes)?),
         None => Reply::NoRow,
     })
 }
