@@ -4,3 +4,10 @@
 //!
 //! The crate has no code. Its functions are laws: each ensures something of the definitions alone.
 #![tactic(auto)]
+
+ghost use Rattle.rm_model.specs.Laws.{TextsAreLines};
+
+/// A reply whose numbers are in their ranges is written with one LF, at its end.
+pub fn each_reply_is_one_line()
+    ensures { TextsAreLines }
+{}

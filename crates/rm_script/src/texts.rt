@@ -1,9 +1,9 @@
 //! How replies are written.
 
-ghost use Rattle.std.specs.Prelude.{◌≡◌, ◌≤◌, ◌++◌, [], ◌∷◌, codes, decimal, length, take, OnOk, OnErr, vec_len};
+ghost use Rattle.std.specs.Prelude.{◌≡◌, ◌≤◌, ◌++◌, codes, decimal, length, take, OnOk, OnErr, vec_len};
 ghost use Rattle.rm_model.specs.Texts.{hex, place, shown, text_of};
 
-use itoa::{Buffer, Integer};
+use itoa::Buffer;
 use rm_types::{MAX_ROW, NoMemory, Reply, Rid, TxnId};
 
 /// Appends a reply's line. `NoMemory` leaves `out` as it was.
@@ -92,6 +92,7 @@ fn append_digits(row: &[u8], out: &mut Vec<u8>) -> Result<(), NoMemory>
     let start = out.len();
     let digits = 2 * row.len();
     out.resize(start + digits, 0)?;
+    // It refuses only a place of another length than the digits'.
     hex::encode_to_slice(row, &mut out[start..]).unwrap();
     Ok(())
 }
@@ -106,11 +107,23 @@ mod tests {
     fn each_reply_has_its_line(rt: HostRuntime) -> Result<(), Fail> {
         let alloc = rt.alloc();
         let cases = [
-            (Reply::Began(TxnId(4_294_967_295)), b"begin 4294967295\n".as_slice()),
-            (Reply::Inserted(Rid { page: 3, slot: 14 }), b"inserted 3.14\n".as_slice()),
+            (
+                Reply::Began(TxnId(4_294_967_295)),
+                b"begin 4294967295\n".as_slice(),
+            ),
+            (
+                Reply::Inserted(Rid { page: 3, slot: 14 }),
+                b"inserted 3.14\n".as_slice(),
+            ),
             (Reply::NoSpace, b"nospace\n".as_slice()),
-            (Reply::Row(Row::from_slice(alloc, b"")?), b"row -\n".as_slice()),
-            (Reply::Row(Row::from_slice(alloc, b"\n\xff")?), b"row 0aff\n".as_slice()),
+            (
+                Reply::Row(Row::from_slice(alloc, b"")?),
+                b"row -\n".as_slice(),
+            ),
+            (
+                Reply::Row(Row::from_slice(alloc, b"\n\xff")?),
+                b"row 0aff\n".as_slice(),
+            ),
             (Reply::NoRow, b"norow\n".as_slice()),
             (Reply::BadRid, b"badrid\n".as_slice()),
             (Reply::Committed, b"committed\n".as_slice()),

@@ -1,4 +1,4 @@
-use Rattle.std.proofs.Common.{◌≡◌, ◌+◌, ◌*◌, arith, length, take, rules, ap}
+use Rattle.std.proofs.Common.{◌≡◌, arith, length, take, rules, ap}
 use Rattle.std.proofs.lemmas.Grind.{common_steps}
 use Rattle.hex.proofs.HexLemmas.{length-encode_with}
 use Rattle.hex.specs.Hex.{encode_lower, lower_digits}
