@@ -5,7 +5,7 @@
 //! The crate has no code. Its functions are laws: each ensures something of the definitions alone.
 #![tactic(auto)]
 
-ghost use Rattle.rm_model.specs.Laws.{SetsOneSlot, EveryScriptRuns, RunsAreOne};
+ghost use Rattle.rm_model.specs.Laws.{SetsOneSlot, EveryScriptRuns, RunsAreOne, ReadingsAreOne, TextsAreLines};
 
 /// Setting a slot of a page changes that slot and no other, and adds slots only up to it.
 pub fn set_changes_one_slot()
@@ -20,4 +20,14 @@ pub fn every_script_runs()
 /// From one state a script draws one list of replies, and leaves one state.
 pub fn a_script_has_one_run()
     ensures { RunsAreOne }
+{}
+
+/// No bytes are the plain form of two scripts.
+pub fn bytes_spell_one_script()
+    ensures { ReadingsAreOne }
+{}
+
+/// A reply whose numbers are in their ranges is written with one LF, at its end.
+pub fn each_reply_is_one_line()
+    ensures { TextsAreLines }
 {}

@@ -1,0 +1,140 @@
+//! How replies are written.
+
+ghost use Rattle.std.specs.Prelude.{◌≡◌, ◌≤◌, ◌++◌, codes, decimal, length, take, OnOk, OnErr, vec_len};
+ghost use Rattle.rm_model.specs.Texts.{hex, place, shown, text_of};
+
+use itoa::Buffer;
+use rm_types::{MAX_ROW, NoMemory, Reply, Rid, TxnId};
+
+/// Appends a reply's line. `NoMemory` leaves `out` as it was.
+pub fn reply_text(reply: &Reply, out: &mut Vec<u8>) -> Result<(), NoMemory>
+    ensures ok { OnOk result (out.new.items ≡ out.old.items ++ text_of reply.now) }
+    ensures err { OnErr result (out.new.items ≡ out.old.items) }
+{
+    let start = out.len();
+    let written = append_reply(reply, out);
+    if written.is_err() {
+        out.truncate(start);
+    }
+    written
+}
+
+// On an error the line may stand in part behind what `out` had.
+fn append_reply(reply: &Reply, out: &mut Vec<u8>) -> Result<(), NoMemory>
+    ensures ok { OnOk result (out.new.items ≡ out.old.items ++ text_of reply.now) }
+    ensures front { take (vec_len out.old) out.new.items ≡ out.old.items }
+{
+    match reply {
+        Reply::Began(id) => append_begin(*id, out)?,
+        Reply::Inserted(rid) => append_inserted(*rid, out)?,
+        Reply::NoSpace => out.extend_from_slice(b"nospace\n")?,
+        Reply::Row(row) => append_row(row.as_slice(), out)?,
+        Reply::NoRow => out.extend_from_slice(b"norow\n")?,
+        Reply::BadRid => out.extend_from_slice(b"badrid\n")?,
+        Reply::Committed => out.extend_from_slice(b"committed\n")?,
+        Reply::Unbound => out.extend_from_slice(b"unbound\n")?,
+        Reply::Skipped => out.extend_from_slice(b"skipped\n")?,
+    }
+    Ok(())
+}
+
+fn append_begin(id: TxnId, out: &mut Vec<u8>) -> Result<(), NoMemory>
+    ensures ok { OnOk result (out.new.items ≡ out.old.items ++ (codes "begin " ++ decimal id.0 ++ codes "\n")) }
+    ensures front { take (vec_len out.old) out.new.items ≡ out.old.items }
+{
+    out.extend_from_slice(b"begin ")?;
+    append_number(id.0, out)?;
+    out.push(b'\n')?;
+    Ok(())
+}
+
+fn append_inserted(rid: Rid, out: &mut Vec<u8>) -> Result<(), NoMemory>
+    ensures ok { OnOk result (out.new.items ≡ out.old.items ++ (codes "inserted " ++ place rid ++ codes "\n")) }
+    ensures front { take (vec_len out.old) out.new.items ≡ out.old.items }
+{
+    out.extend_from_slice(b"inserted ")?;
+    append_number(rid.page, out)?;
+    out.push(b'.')?;
+    append_number(u32::from(rid.slot), out)?;
+    out.push(b'\n')?;
+    Ok(())
+}
+
+fn append_number(number: u32, out: &mut Vec<u8>) -> Result<(), NoMemory>
+    ensures ok { OnOk result (out.new.items ≡ out.old.items ++ decimal number) }
+    ensures err { OnErr result (out.new.items ≡ out.old.items) }
+{
+    let mut buffer = Buffer::new();
+    out.extend_from_slice(buffer.format(number).as_bytes())?;
+    Ok(())
+}
+
+fn append_row(row: &[u8], out: &mut Vec<u8>) -> Result<(), NoMemory>
+    requires { length row.now ≤ MAX_ROW }
+    ensures ok { OnOk result (out.new.items ≡ out.old.items ++ (codes "row " ++ shown row.now ++ codes "\n")) }
+    ensures front { take (vec_len out.old) out.new.items ≡ out.old.items }
+{
+    out.extend_from_slice(b"row ")?;
+    if row.is_empty() {
+        out.push(b'-')?;
+    } else {
+        append_digits(row, out)?;
+    }
+    out.push(b'\n')?;
+    Ok(())
+}
+
+fn append_digits(row: &[u8], out: &mut Vec<u8>) -> Result<(), NoMemory>
+    requires { length row.now ≤ MAX_ROW }
+    ensures ok { OnOk result (out.new.items ≡ out.old.items ++ hex row.now) }
+    ensures err { OnErr result (out.new.items ≡ out.old.items) }
+{
+    let start = out.len();
+    let digits = 2 * row.len();
+    out.resize(start + digits, 0)?;
+    // It refuses only a place of another length than the digits'.
+    hex::encode_to_slice(row, &mut out[start..]).unwrap();
+    Ok(())
+}
+
+#[cfg(test)]
+mod tests {
+    use super::*;
+    use rm_types::Row;
+    use std::test::Fail;
+
+    #[test]
+    fn each_reply_has_its_line(rt: HostRuntime) -> Result<(), Fail> {
+        let alloc = rt.alloc();
+        let cases = [
+            (
+                Reply::Began(TxnId(4_294_967_295)),
+                b"begin 4294967295\n".as_slice(),
+            ),
+            (
+                Reply::Inserted(Rid { page: 3, slot: 14 }),
+                b"inserted 3.14\n".as_slice(),
+            ),
+            (Reply::NoSpace, b"nospace\n".as_slice()),
+            (
+                Reply::Row(Row::from_slice(alloc, b"")?),
+                b"row -\n".as_slice(),
+            ),
+            (
+                Reply::Row(Row::from_slice(alloc, b"\n\xff")?),
+                b"row 0aff\n".as_slice(),
+            ),
+            (Reply::NoRow, b"norow\n".as_slice()),
+            (Reply::BadRid, b"badrid\n".as_slice()),
+            (Reply::Committed, b"committed\n".as_slice()),
+            (Reply::Unbound, b"unbound\n".as_slice()),
+            (Reply::Skipped, b"skipped\n".as_slice()),
+        ];
+        for (reply, line) in &cases {
+            let mut out = Vec::from_slice(alloc, b"before\n")?;
+            reply_text(reply, &mut out)?;
+            assert_eq!(rt; out.as_slice().strip_prefix(b"before\n"), Some(*line));
+        }
+        Ok(())
+    }
+}
