@@ -4,3 +4,11 @@
 //!
 //! The crate has no code. Its functions are laws: each ensures something of the definitions alone.
 #![tactic(auto)]
+
+ghost use Rattle.rm_model.specs.Laws.{ReadingsAreOne};
+
+/// No bytes spell two scripts.
+pub fn bytes_spell_one_script()
+    ensures { ReadingsAreOne }
+{
+}

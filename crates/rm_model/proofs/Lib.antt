@@ -1,0 +1,4 @@
+pub mod Cuts
+pub mod GrammarExamples
+pub mod LinesOf
+pub mod Readings

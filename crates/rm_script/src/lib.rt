@@ -1,0 +1,19 @@
+//! Scripts as text.
+//!
+//! A script in the plain form is read whole or refused at its first wrong line, and each text spells
+//! at most one script, so what is read is what was written. Both limits of a script are tested before
+//! any of its lines is read.
+#![tactic(auto)]
+
+mod cuts;
+mod fields;
+mod instructions;
+mod reading;
+mod refused;
+mod rows;
+
+pub use reading::read_plain;
+pub use refused::ScriptRefused;
+
+#[cfg(test)]
+mod tests;
