@@ -10,6 +10,14 @@ use crate::rows::row_of;
 use rm_types::{Line, NoMemory};
 use std::alloc::Global;
 
+const BEGIN: &[u8] = b"begin";
+
+const COMMIT: &[u8] = b"commit";
+
+const INSERT: &[u8] = b"insert ";
+
+const READ: &[u8] = b"read ";
+
 /// The insert whose name and row the text spells, or `None` where it spells none.
 fn insert_of(alloc: Global, text: &[u8]) -> Result<Option<Line>, NoMemory>
     ensures some { IfOk result (λ found. IfSome found (λ said. IsLine said (codes "insert " ++ text.now))) }
@@ -32,15 +40,17 @@ pub(crate) fn line_of(alloc: Global, text: &[u8]) -> Result<Option<Line>, NoMemo
     ensures some { IfOk result (λ found. IfSome found (λ said. IsLine said text.now)) }
     ensures none { IfOk result (λ found. IfNone found (IsWrong text.now)) }
 {
-    if let Some(rest) = text.strip_prefix(b"insert ") {
+    if text == BEGIN {
+        return Ok(Some(Line::Begin));
+    }
+    if text == COMMIT {
+        return Ok(Some(Line::Commit));
+    }
+    if let Some(rest) = text.strip_prefix(INSERT) {
         return insert_of(alloc, rest);
     }
-    if let Some(rest) = text.strip_prefix(b"read ") {
+    if let Some(rest) = text.strip_prefix(READ) {
         return Ok(target_of(rest).map(Line::Read));
     }
-    Ok(match text {
-        b"begin" => Some(Line::Begin),
-        b"commit" => Some(Line::Commit),
-        _ => None,
-    })
+    Ok(None)
 }

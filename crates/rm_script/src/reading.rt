@@ -35,11 +35,11 @@ fn line_count(bytes: &[u8]) -> usize
     requires { length bytes.now ≤ MAX_BYTES }
     ensures { result ≡ length (lines_of bytes.now) }
 {
+    let Some(last) = bytes.last() else {
+        return 0;
+    };
     let ends = line_ends(bytes);
-    match bytes.last() {
-        None | Some(b'\n') => ends,
-        Some(_) => ends + 1,
-    }
+    if *last == b'\n' { ends } else { ends + 1 }
 }
 
 /// How many of the bytes end a line.

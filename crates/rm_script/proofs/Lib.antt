@@ -1,0 +1,3 @@
+pub mod HexRows
+pub mod Numbers
+pub mod Spellings
