@@ -1,3 +1,4 @@
+pub mod FirstLines
 pub mod HexRows
 pub mod Numbers
 pub mod Spellings
