@@ -1,5 +1,9 @@
 pub mod Slots
 pub mod Runs
 pub mod RunExamples
+pub mod Cuts
+pub mod LinesOf
+pub mod Readings
+pub mod GrammarExamples
 pub mod TextLines
 pub mod TextExamples

@@ -1,1 +1,5 @@
+pub mod FirstLines
+pub mod HexRows
+pub mod Numbers
 pub mod RowDigits
+pub mod Spellings

@@ -1,8 +1,21 @@
-//! Scripts and replies as text: what a script's bytes say, and how a reply is written.
+//! Scripts and replies as text.
 //!
-//! A reply is appended to its reader's buffer as one line, whole or not at all.
+//! A script in the plain form is read whole or refused at its first wrong line, and each text spells
+//! at most one script, so what is read is what was written. Both limits of a script are tested before
+//! any of its lines is read. A reply is appended to a buffer as one line, whole or not at all.
 #![tactic(auto)]
 
+mod cuts;
+mod fields;
+mod instructions;
+mod reading;
+mod refused;
+mod rows;
 mod texts;
 
+pub use reading::read_plain;
+pub use refused::ScriptRefused;
 pub use texts::reply_text;
+
+#[cfg(test)]
+mod tests;

@@ -1,0 +1,58 @@
+-- The first line of some bytes, and the lines that were read so far.
+use Rattle.std.proofs.Common.{◌≡◌, ◌≢◌, ℕ, suc, ◌+◌, ◌<◌, List, [], ◌∷◌, ◌++◌, length, Option, Some, None, IfSome, IfNone, unwrap_or, refl, sym, ap, ◌∙◌, arith, append_assoc}
+use Rattle.std.specs.Borrow.{Bor}
+use Rattle.rm_types.specs.declared.lines.Line.{Line}
+use Rattle.rm_model.specs.Grammar.{IsLine, AreLines, IsWrong, IsFirstWrong, lines_of}
+use Rattle.rm_model.proofs.LinesOf.{lines_of-cut, lines_of-last}
+use Rattle.rm_script.specs.Cuts.{IsCut, Lacks}
+
+pub first_of_cut : (bytes front back : List ℕ) → IsCut 10 bytes front back → lines_of bytes ≡ front ∷ lines_of back
+first_of_cut bytes front back cut = ap lines_of cut.whole ∙ lines_of-cut front back cut.is_first
+
+pub lone_line : (bytes : List ℕ) → 0 < length bytes → Lacks 10 bytes → lines_of bytes ≡ bytes ∷ []
+lone_line [] some whole = absurd (omega (arith, some))
+lone_line (byte ∷ bytes) some whole = lines_of-last byte bytes whole
+
+-- the parts of a cut, or else the whole and nothing
+abbrev pub Parts : Type 0
+Parts = Bor (List ℕ) × Bor (List ℕ)
+
+first_or : (bytes : List ℕ) (found : Option Parts) (whole : Parts) → 0 < length bytes → IfSome found (λ parts. IsCut 10 bytes parts.0.now parts.1.now) → IfNone found (Lacks 10 bytes) → whole.0.now ≡ bytes → whole.1.now ≡ [] → lines_of bytes ≡ (unwrap_or found whole).0.now ∷ lines_of (unwrap_or found whole).1.now
+first_or bytes None whole some cut lacks e e' = lone_line bytes some lacks ∙ rw (e, e') refl
+first_or bytes (Some parts) whole some cut lacks e e' = first_of_cut bytes parts.0.now parts.1.now cut
+
+pub first_parts : (bytes : List ℕ) (found : Option Parts) (whole parts : Parts) → parts ≡ unwrap_or found whole → 0 < length bytes → IfSome found (λ parts. IsCut 10 bytes parts.0.now parts.1.now) → IfNone found (Lacks 10 bytes) → whole.0.now ≡ bytes → whole.1.now ≡ [] → lines_of bytes ≡ parts.0.now ∷ lines_of parts.1.now
+first_parts bytes found whole parts is some cut lacks e e' = rw is (first_or bytes found whole some cut lacks e e')
+
+-- one line more
+pub AreLines-push : (lines : List Line) (right : List (List ℕ)) (said : Line) (text : List ℕ) → AreLines lines right → IsLine said text → AreLines (lines ++ said ∷ []) (right ++ text ∷ [])
+AreLines-push [] [] said text h l = (l, tt)
+AreLines-push [] (other ∷ right) said text h l = absurd h
+AreLines-push (a ∷ lines) [] said text h l = absurd h
+AreLines-push (a ∷ lines) (other ∷ right) said text h l = (h.0, AreLines-push lines right said text h.1 l)
+
+pub length-AreLines : (lines : List Line) (right : List (List ℕ)) → AreLines lines right → length lines ≡ length right
+length-AreLines [] [] h = refl
+length-AreLines [] (text ∷ right) h = absurd h
+length-AreLines (a ∷ lines) [] h = absurd h
+length-AreLines (a ∷ lines) (text ∷ right) h = ap suc (length-AreLines lines right h.1)
+
+-- the lines so far, and what is left of the bytes
+abbrev pub HasRead : List ℕ → List Line → List ℕ → Type 0
+HasRead bytes lines rest = (right : List (List ℕ)) × AreLines lines right × (lines_of bytes ≡ right ++ lines_of rest)
+
+pub HasRead-more : (bytes : List ℕ) (lines more : List Line) (rest text after : List ℕ) (said : Line) → HasRead bytes lines rest → lines_of rest ≡ text ∷ lines_of after → IsLine said text → more ≡ lines ++ said ∷ [] → HasRead bytes more after
+HasRead-more bytes lines more rest text after said h first l e =
+    rw e (h.0 ++ text ∷ [], AreLines-push lines h.0 said text h.1 l, h.2 ∙ ap (λ ls. h.0 ++ ls) first ∙ sym (append_assoc h.0 (text ∷ []) (lines_of after)))
+
+pub first_wrong : (bytes : List ℕ) (lines : List Line) (rest text after : List ℕ) (number : ℕ) → HasRead bytes lines rest → lines_of rest ≡ text ∷ lines_of after → IsWrong text → number ≡ length lines + 1 → IsFirstWrong number bytes
+first_wrong bytes lines rest text after number h first wrong e = record {
+  before = lines;
+  right = h.0;
+  wrong = text;
+  rest = lines_of after;
+  cut = h.2 ∙ ap (λ ls. h.0 ++ ls) first;
+  spelled = h.1;
+  is_wrong = wrong;
+  is_number = e ∙ ap (λ n. n + 1) (length-AreLines lines h.0 h.1);
+}
