@@ -1,5 +1,5 @@
 -- What the program prints for its words and its input, and why.
-use Rattle.std.specs.Prelude.{◌≡◌, ℕ, ◌≤◌, ◌<◌, List, [], ◌∷◌, ◌++◌, length, take, codes, Option, ◌⊎◌}
+use Rattle.std.specs.Prelude.{◌≡◌, ℕ, ◌≤◌, ◌<◌, List, [], ◌∷◌, ◌++◌, length, take, codes, Option, Some, ◌⊎◌}
 use Rattle.rm_types.specs.declared.lines.Line.{Line}
 use Rattle.rm_types.specs.declared.lines.TheConstants.{MAX_BYTES, MAX_LINES}
 use Rattle.rm_types.specs.declared.lines.Which.TheVariants as which
@@ -60,3 +60,18 @@ pub record Answers (words : List (List ℕ)) (left before after : Option (List �
   pub had : HasLeft left bytes
   pub took : Takes before after text
   pub written : IsWritten words bytes source_failed sink_failed answer text
+
+-- The same, but that the line which tells of the status is still to be written.
+pub record Owes (words : List (List ℕ)) (left before after : Option (List ℕ)) (source_failed sink_failed : Type 0) (answer : Status) : Type 0 where
+  pub bytes : List ℕ
+  pub text : List ℕ
+  pub had : HasLeft left bytes
+  pub took : Takes before after text
+  pub written : IsWritten words bytes source_failed sink_failed answer (text ++ error_line answer)
+
+-- Where the words are right, the source tells a script in the plain form within the limits, and nothing
+-- fails, the command is done, unless memory runs out.
+abbrev pub IsComplete : List (List ℕ) → Option (List ℕ) → Type 0 → Type 0 → Status → Type 0
+IsComplete words left source_failed sink_failed answer =
+    (bytes : List ℕ) (lines : List Line) → IsPlainCommand words → left ≡ Some bytes → IsPlain lines bytes → IsWithinLimits bytes
+    → (source_failed → ⊥) → (sink_failed → ⊥) → (answer ≡ status.Done) ⊎ (answer ≡ status.NoMemory)

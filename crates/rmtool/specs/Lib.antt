@@ -1,3 +1,4 @@
 pub mod Status
 pub mod Reading
+pub mod Running
 pub mod Answer

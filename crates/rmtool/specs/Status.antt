@@ -2,6 +2,8 @@
 use Rattle.std.specs.Prelude.{ℕ, List, [], ◌++◌, codes, decimal}
 use Rattle.rm_types.specs.declared.lines.Which.{Which}
 use Rattle.rm_types.specs.declared.lines.Which.TheVariants as which
+use Rattle.rm_script.specs.declared.refused.ScriptRefused.{ScriptRefused}
+use Rattle.rm_script.specs.declared.refused.ScriptRefused.TheVariants as refused
 use Rattle.rmtool.specs.declared.statuses.Status.{Status}
 use Rattle.rmtool.specs.declared.statuses.Status.TheVariants as status
 
@@ -29,3 +31,9 @@ error_line status.Source = codes "error 5 source\n"
 error_line status.Sink = []
 error_line (status.Limit which) = codes "error 10 limit " ++ word_of which ++ codes "\n"
 error_line status.NoMemory = codes "error 11 memory\n"
+
+-- the status of a script that is refused
+abbrev pub status_of : ScriptRefused → Status
+status_of (refused.Bad line) = status.BadScript line
+status_of (refused.Limit which) = status.Limit which
+status_of refused.NoMemory = status.NoMemory

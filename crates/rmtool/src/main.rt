@@ -1,13 +1,14 @@
 //! The program.
 #![tactic(auto)]
 
+mod command;
 mod plain;
 mod reading;
 mod statuses;
+mod stops;
 mod writing;
 
-pub use reading::{ReadStop, read_script};
+pub use command::run_command;
 pub use statuses::Status;
-pub use writing::write_all;
 
 fn main(_rt: HostRuntime) {}

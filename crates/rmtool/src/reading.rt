@@ -3,37 +3,14 @@
 ghost use Rattle.std.specs.Prelude.{◌≡◌, IfOk, IsErrOf, ◌≤◌, vec_len};
 ghost use Rattle.rm_outside.specs.Faults.{Rises};
 ghost use Rattle.rmtool.specs.Reading.{Reads};
-ghost use Rattle.rmtool.specs.declared.reading.ReadStop.TheVariants.{Failed, NoMemory};
 
+use crate::stops::Stop;
 use rm_outside::Source;
 use rm_types::MAX_BYTES;
 use std::alloc::{AllocError, Global};
 
 /// How many bytes are asked for at a time.
 const CHUNK: usize = 65_536;
-
-/// Why a source was not read to its end.
-#[derive(Clone, Copy, Debug, PartialEq, Eq)]
-pub enum ReadStop {
-    Failed,
-    NoMemory,
-}
-
-impl From<rm_outside::Failed> for ReadStop {
-    ghost from_gives = { λ _ e. e ≡ Failed };
-
-    fn from(_e: rm_outside::Failed) -> ReadStop {
-        ReadStop::Failed
-    }
-}
-
-impl From<AllocError> for ReadStop {
-    ghost from_gives = { λ _ e. e ≡ NoMemory };
-
-    fn from(_e: AllocError) -> ReadStop {
-        ReadStop::NoMemory
-    }
-}
 
 /// So many zeros, to read into.
 fn zeros(alloc: Global, count: usize) -> Result<Vec<u8>, AllocError>
@@ -43,9 +20,9 @@ fn zeros(alloc: Global, count: usize) -> Result<Vec<u8>, AllocError>
 }
 
 /// The bytes of a source to its end, or more than a script may have.
-pub fn read_script<S: Source>(alloc: Global, script: &mut S) -> Result<Vec<u8>, ReadStop>
+pub fn read_script<S: Source>(alloc: Global, script: &mut S) -> Result<Vec<u8>, Stop>
     ensures bytes { IfOk result (λ bytes. Reads (S.left script.old) (S.left script.new) bytes.items) }
-    ensures failed { IsErrOf result ReadStop.Failed → Rises (S.faults script.old) (S.faults script.new) }
+    ensures failed { IsErrOf result Stop.Failed → Rises (S.faults script.old) (S.faults script.new) }
     ensures kept { S.faults script.old ≤ S.faults script.new }
 {
     let mut bytes = Vec::new(alloc);

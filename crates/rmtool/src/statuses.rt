@@ -1,10 +1,11 @@
 //! How a command ends.
 
 ghost use Rattle.std.specs.Prelude.{◌≡◌};
-ghost use Rattle.rmtool.specs.Status.{number_of, error_line};
+ghost use Rattle.rmtool.specs.Status.{number_of, error_line, status_of};
 
 use arrayvec::ArrayString;
 use itoa::Buffer;
+use rm_script::ScriptRefused;
 use rm_types::Which;
 
 /// The most bytes that a status line has.
@@ -27,6 +28,18 @@ pub enum Status {
     Limit { which: Which },
     /// Memory ran out.
     NoMemory,
+}
+
+impl From<ScriptRefused> for Status {
+    ghost from_gives = { λ refused status. status ≡ status_of refused };
+
+    fn from(refused: ScriptRefused) -> Status {
+        match refused {
+            ScriptRefused::Bad { line } => Status::BadScript { line },
+            ScriptRefused::Limit { which } => Status::Limit { which },
+            ScriptRefused::NoMemory => Status::NoMemory,
+        }
+    }
 }
 
 impl Status {
