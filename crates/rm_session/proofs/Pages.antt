@@ -1,5 +1,5 @@
 -- The pages in memory and the slots that they stand for, and what a reply from them says of a session.
-use Rattle.std.proofs.Common.{◌≡◌, ℕ, ◌+◌, ◌≤◌, ◌<◌, List, [], length, get_or, set, refl, sym, ap, ◌∙◌, arith, Bool, true, false, IsTrue, inl, inr}
+use Rattle.std.proofs.Common.{◌≡◌, ℕ, ◌+◌, ◌<◌, List, [], length, get_or, set, refl, sym, ap, ◌∙◌, arith, Bool, true, false, IsTrue, inl, inr}
 use Rattle.std.proofs.lemmas.Bool.{cases_lt, both_ways}
 use Rattle.std.proofs.lemmas.List.{length-map, map-set, get_or-map}
 use Rattle.rm_types.specs.declared.slots.Slot.{Slot}
@@ -10,7 +10,6 @@ use Rattle.rm_types.specs.declared.operations.Reply.{Reply}
 use Rattle.rm_types.specs.declared.operations.Reply.TheVariants as reply
 use Rattle.rm_model.specs.Pages.{PageValue, used, set_slot}
 use Rattle.rm_model.specs.Session.{page_at, rows_of, HasRoom, LacksRoom, IsFirstWithRoom, Core}
-use Rattle.rm_model.proofs.Slots.{used-set_slot_end}
 use Rattle.rm_model.proofs.Runs.{rows_of-set_row, no_row_behind}
 use Rattle.rm_session.specs.Answers.{slots_of, Inserts, Draws}
 
@@ -23,10 +22,6 @@ page_at-slots_of pages number page inside = get_or-map (λ page. page.slots) pag
 
 pub slots_of-set : (pages : List PageValue) (number : ℕ) (page : PageValue) → slots_of (set pages number page) ≡ set (slots_of pages) number page.slots
 slots_of-set pages number page = map-set (λ page. page.slots) pages number page
-
--- a row that has room fits behind the directory
-pub row_fits : (slots : List Slot) (number : ℕ) (row : List ℕ) → number ≡ length slots → HasRoom slots (length row) → used (set_slot slots number (Row row)) ≤ CAPACITY
-row_fits slots number row behind room = rw behind (omega (arith, used-set_slot_end slots (Row row)))
 
 -- the page lacks room that was tested and has none
 pub lacks_room_at : (pages : List PageValue) (number len : ℕ) (page : PageValue) → number < length pages → page ≡ get_or pages number page → (has : Bool) → has ≡ false → (HasRoom page.slots len → IsTrue has) → LacksRoom (page_at (slots_of pages) number) len
