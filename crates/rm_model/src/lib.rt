@@ -10,5 +10,4 @@ ghost use Rattle.rm_model.specs.Laws.{ReadingsAreOne};
 /// No bytes spell two scripts.
 pub fn bytes_spell_one_script()
     ensures { ReadingsAreOne }
-{
-}
+{}
