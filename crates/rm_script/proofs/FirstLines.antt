@@ -1,5 +1,5 @@
 -- The first line of some bytes, and the lines that were read so far.
-use Rattle.std.proofs.Common.{◌≡◌, ◌≢◌, ℕ, suc, ◌+◌, ◌<◌, List, [], ◌∷◌, ◌++◌, length, Option, Some, None, IfSome, IfNone, unwrap_or, refl, sym, ap, ◌∙◌, arith, append_assoc}
+use Rattle.std.proofs.Common.{◌≡◌, ℕ, suc, ◌+◌, ◌<◌, List, [], ◌∷◌, ◌++◌, length, Option, Some, None, IfSome, IfNone, unwrap_or, refl, sym, ap, ◌∙◌, arith, append_assoc}
 use Rattle.std.specs.Borrow.{Bor}
 use Rattle.rm_types.specs.declared.lines.Line.{Line}
 use Rattle.rm_model.specs.Grammar.{IsLine, AreLines, IsWrong, IsFirstWrong, lines_of}

@@ -1,7 +1,7 @@
 -- Which texts `parse` reads as decimal numbers, and which of those have a leading zero or a sign.
-use Rattle.std.proofs.Common.{◌≡◌, ◌≢◌, ℕ, zero, suc, ◌^◌, ◌<◌, ◌≤◌, List, length, get_or, slice_get, decimal, ◌⊎◌, inl, inr, ⊎_elim, Option, Some, None, IfSome, IfNone, Result, Ok, Err, MatchResult, sym, ap, ◌∙◌, subst, refl, arith}
+use Rattle.std.proofs.Common.{◌≡◌, ◌≢◌, ℕ, zero, suc, ◌^◌, ◌<◌, ◌≤◌, List, length, get_or, slice_get, decimal, Some, None, IfSome, IfNone, Result, Ok, Err, MatchResult, sym, ap, ◌∙◌, subst, arith}
 use Rattle.std.specs.Result.{result_ok, OkIff}
-use Rattle.std.specs.Str.{IsAscii, IsUtf8}
+use Rattle.std.specs.Str.{IsUtf8}
 use Rattle.std.specs.Str.Parse.{AllDigits, digits_value, ParsesUnsigned}
 use Rattle.std.proofs.lemmas.Fmt.{decimal_is_IsNumeral, decimal_digit, decimal_nonempty, first_decimal, decimal-digits_value, parse-decimal, decimal_injective, IsAscii-decimal}
 use Rattle.std.proofs.lemmas.Str.{IsUtf8-from_ascii}

@@ -1,5 +1,5 @@
 -- Texts that spell no target, no row and no line, by what their parts spell.
-use Rattle.std.proofs.Common.{◌≡◌, ◌≢◌, ℕ, ◌^◌, ◌<◌, ◌≤◌, List, [], ◌∷◌, ◌++◌, inl, inr, get_or, drop, codes, decimal, Option, Some, None, IfSome, IfNone, MatchOption, Result, IfOk, sym, ap, subst, ◌∙◌, arith}
+use Rattle.std.proofs.Common.{◌≡◌, ◌≢◌, ℕ, ◌^◌, ◌<◌, ◌≤◌, List, ◌∷◌, ◌++◌, inl, inr, get_or, drop, codes, decimal, Option, Some, None, IfSome, IfNone, MatchOption, Result, IfOk, sym, ap, subst, ◌∙◌, arith}
 use Rattle.std.specs.Option.{IsSomeAnd}
 use Rattle.std.proofs.lemmas.Result.{IfOk-weaker}
 use Rattle.rm_types.specs.declared.rows.TheConstants.{MAX_ROW}

@@ -1,6 +1,11 @@
-//! The program.
+//! `rmtool`, the record manager's program: a command's words, a script on standard input, and what the
+//! command prints on standard output.
+//!
+//! [`run_command`] is the whole program as a function over a source and a sink, and its contract says
+//! what is printed and why. `main` only hands it the real ones.
 #![tactic(auto)]
 
+mod adapters;
 mod command;
 mod plain;
 mod reading;
@@ -8,7 +13,42 @@ mod statuses;
 mod stops;
 mod writing;
 
+pub use adapters::{Input, NoVolume, Output};
 pub use command::run_command;
 pub use statuses::Status;
 
-fn main(_rt: HostRuntime) {}
+use std::env;
+use std::io;
+use std::io::ErrorKind;
+use std::process::ExitCode;
+
+/// The words after the program's name.
+fn words(rt: &HostRuntime) -> io::Result<Vec<String>> {
+    let mut words = Vec::new(rt.alloc());
+    for word in env::args(rt)?.skip(1) {
+        words.push(word)?;
+    }
+    Ok(words)
+}
+
+fn main(rt: HostRuntime) -> ExitCode {
+    let words = match words(&rt) {
+        Ok(words) => words,
+        Err(error) if error.kind() == ErrorKind::OutOfMemory => {
+            return ExitCode::from(Status::NoMemory.number());
+        }
+        // A word that is no text is in no command's form, and nor is no word.
+        Err(_) => Vec::new(rt.alloc()),
+    };
+    let mut volume = NoVolume::new();
+    let mut script = Input::new(rt.stdin());
+    let mut out = Output::new(rt.stdout());
+    let status = run_command(
+        rt.alloc(),
+        words.as_slice(),
+        &mut volume,
+        &mut script,
+        &mut out,
+    );
+    ExitCode::from(status.number())
+}

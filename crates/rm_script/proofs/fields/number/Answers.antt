@@ -1,5 +1,4 @@
 use Rattle.std.proofs.Common.{◌≡◌, ◌≤◌, length, inl, inr, arith}
-use Rattle.std.specs.List.{slice_get}
 use Rattle.rm_script.proofs.Numbers.{no_plus, no_leading_zero, not_empty, parsed, unparsed, taken, not_taken, utf8_number}
 use Rattle.rm_script.proofs.fields.number.Goals as goal
 use Rattle.rm_script.proofs.fields.number.Goals.{then-first-eq43-via-then-first-eq43, then-first-eq43-via-else-first-eq43+then-text-gt1}
