@@ -2,6 +2,7 @@
 use Rattle.std.proofs.Common.{◌≡◌, ℕ, ◌+◌, ◌*◌, ◌<◌, ◌≤◌, List, [], ◌∷◌, ◌++◌, length, get_or, drop, ap, sym, ◌∙◌, refl, arith, length-append, append-nil}
 use Rattle.std.proofs.lemmas.List.{nil_from_length}
 use Rattle.std.specs.List.{AllByRecursion}
+use Rattle.rm_types.specs.declared.rows.TheConstants.{MAX_ROW}
 use Rattle.rm_model.specs.Grammar.{IsWrittenOut}
 use Rattle.rm_model.specs.Texts.{hex_byte, hex}
 
@@ -47,7 +48,7 @@ pub length_read : (text bytes rest : List ℕ) → text ≡ hex bytes ++ rest �
 length_read text bytes rest e = omega (arith, ap length e, length-append (hex bytes) rest, length-hex bytes)
 
 -- all of the text was read
-pub read_out : (text bytes row : List ℕ) (rest : List ℕ) → text ≡ hex bytes ++ rest → AreBytes bytes → length rest ≡ 0 → 0 < length text → length text ≤ 8152 → row ≡ bytes → IsWrittenOut row text
+pub read_out : (text bytes row : List ℕ) (rest : List ℕ) → text ≡ hex bytes ++ rest → AreBytes bytes → length rest ≡ 0 → 0 < length text → length text ≤ 2 * MAX_ROW → row ≡ bytes → IsWrittenOut row text
 read_out text bytes row rest e p none some few same = rw same (record {
   nonempty = omega (arith, length_read text bytes rest e);
   short = omega (arith, length_read text bytes rest e);
