@@ -13,6 +13,9 @@ mod statuses;
 mod stops;
 mod writing;
 
+#[cfg(test)]
+mod tests;
+
 pub use adapters::{Input, NoVolume, Output};
 pub use command::run_command;
 pub use statuses::Status;
