@@ -29,7 +29,6 @@ some_left None = ([], tt)
 some_left (Some bytes) = (bytes, refl)
 
 module _ (left a : Option (List ℕ)) (source_failed sink_failed : Type 0) where
-
   abbrev Plain : Option (List ℕ) → Status → Type 0
   Plain b answer = Owes (codes "plain" ∷ []) left a b source_failed sink_failed answer
 
@@ -75,17 +74,18 @@ module _ (left a : Option (List ℕ)) (source_failed sink_failed : Type 0) where
 pub draws_more : (bytes : List ℕ) (lines : List Line) (count : ℕ) (mid : State) (replies : List Reply) → IsWithinLimits bytes → IsPlain lines bytes → Run (fresh PAGES) (take count lines) replies mid → (others : List Reply) × Draws bytes (replies ++ others)
 draws_more bytes lines count mid replies limits plain run =
     let rest = every_script_runs mid (drop count lines) in
-    let whole = runs_join (fresh PAGES) mid rest.1 (take count lines) (drop count lines) replies rest.0 run rest.2 in
-    (rest.0, record {
-      lines = lines;
-      last = rest.1;
-      limits = limits;
-      plain = plain;
-      run = subst (λ (all : List Line). Run (fresh PAGES) all (replies ++ rest.0) rest.1) (take-append-drop count lines) whole;
-    })
+    let whole = runs_join (fresh PAGES) mid rest.1 (take count lines) (drop count lines) replies rest.0 run rest.2 in (
+      rest.0,
+      record {
+        lines = lines;
+        last = rest.1;
+        limits = limits;
+        plain = plain;
+        run = subst (λ (all : List Line). Run (fresh PAGES) all (replies ++ rest.0) rest.1) (take-append-drop count lines) whole;
+      },
+    )
 
 module _ (left a b after : Option (List ℕ)) (source_failed sink_failed : Type 0) (bytes : List ℕ) (lines : List Line) (reads : Reads left after bytes) (limits : IsWithinLimits bytes) (plain : IsPlain lines bytes) where
-
   -- memory ran out, and the lines that were done are written
   pub owes_front : DidSome (fresh PAGES) lines a b [] → Owes (codes "plain" ∷ []) left a b source_failed sink_failed status.NoMemory
   owes_front (count, mid, did) =
@@ -107,10 +107,19 @@ module _ (left a b after : Option (List ℕ)) (source_failed sink_failed : Type 
         text = did.sent;
         had = all_read left a source_failed sink_failed after bytes reads limits.few_bytes;
         took = did.took;
-        written = (failed, (status.Done, texts_of (did.replies ++ more.0), (refl, (did.replies ++ more.0, more.1, refl)),
-          (buffer ++ texts_of more.0,
-            flat_map-append text_of did.replies more.0 ∙ ap (λ t. t ++ texts_of more.0) (sym did.text) ∙ append_assoc did.sent buffer (texts_of more.0)
-            ∙ ap (λ t. t ++ (buffer ++ texts_of more.0)) (sym (append-nil did.sent)))));
+        written = (
+          failed,
+          (
+            status.Done,
+            texts_of (did.replies ++ more.0),
+            (refl, (did.replies ++ more.0, more.1, refl)),
+            (
+              buffer ++ texts_of more.0,
+              flat_map-append text_of did.replies more.0 ∙ ap (λ t. t ++ texts_of more.0) (sym did.text) ∙ append_assoc did.sent buffer (texts_of more.0)
+                  ∙ ap (λ t. t ++ (buffer ++ texts_of more.0)) (sym (append-nil did.sent)),
+            ),
+          ),
+        );
       }
 
 -- the words are no command
@@ -154,7 +163,7 @@ begins words bytes source_failed sink_failed status.NoMemory whole front rest fa
 cut_written : (words : List (List ℕ)) (bytes : List ℕ) (source_failed sink_failed : Type 0) (answer : Status) (text : List ℕ) (count : ℕ) → sink_failed → IsWritten words bytes source_failed sink_failed answer (text ++ error_line answer) → IsWritten words bytes source_failed sink_failed status.Sink (text ++ take count (error_line answer))
 cut_written words bytes source_failed sink_failed answer text count failed written =
     let cut : text ++ error_line answer ≡ (text ++ take count (error_line answer)) ++ drop count (error_line answer) =
-          ap (λ t. text ++ t) (sym (take-append-drop count (error_line answer))) ∙ sym (append_assoc text (take count (error_line answer)) (drop count (error_line answer))) in
+    ap (λ t. text ++ t) (sym (take-append-drop count (error_line answer))) ∙ sym (append_assoc text (take count (error_line answer)) (drop count (error_line answer))) in
     begins words bytes source_failed sink_failed answer (text ++ error_line answer) (text ++ take count (error_line answer)) (drop count (error_line answer)) failed cut written
 
 -- the line was cut short
