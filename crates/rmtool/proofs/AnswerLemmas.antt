@@ -1,5 +1,5 @@
 -- What is due at each exit of the program.
-use Rattle.std.proofs.Common.{◌≡◌, ℕ, suc, ◌+◌, ◌≤◌, ◌<◌, List, [], ◌∷◌, ◌++◌, length, take, drop, Option, Some, None, refl, sym, ap, ◌∙◌, subst, append_assoc, append-nil, length-append, codes, inl, inr, ◌⊎◌, arith}
+use Rattle.std.proofs.Common.{◌≡◌, ℕ, suc, ◌≤◌, List, [], ◌∷◌, ◌++◌, length, take, drop, Option, Some, None, refl, sym, ap, ◌∙◌, subst, append_assoc, append-nil, length-append, codes, inl, inr, ◌⊎◌, arith}
 use Rattle.std.proofs.lemmas.Grind.{flat_map-append}
 use Rattle.std.proofs.lemmas.List.{take-append-drop, take_at}
 use Rattle.rm_types.specs.declared.lines.Line.{Line}
@@ -7,9 +7,9 @@ use Rattle.rm_types.specs.declared.lines.TheConstants.{MAX_BYTES}
 use Rattle.rm_types.specs.declared.lines.Which.TheVariants as which
 use Rattle.rm_types.specs.declared.operations.Reply.{Reply}
 use Rattle.rm_model.specs.Session.{State, Run, fresh}
-use Rattle.rm_model.specs.Grammar.{IsPlain, AreLines, IsWithinLimits, IsFirstWrong, IsWrong, lines_of}
+use Rattle.rm_model.specs.Grammar.{IsPlain, AreLines, IsWithinLimits, IsFirstWrong, IsWrong}
 use Rattle.rm_model.specs.Texts.{text_of, texts_of}
-use Rattle.rm_model.proofs.Runs.{every_script_runs, runs_join, replies_are_as_many}
+use Rattle.rm_model.proofs.Runs.{every_script_runs, runs_join}
 use Rattle.rm_outside.specs.Streams.{Takes}
 use Rattle.rm_outside.proofs.StreamLemmas.{Takes-none, Takes-append}
 use Rattle.rm_script.specs.Refusals.{Refuses}
@@ -20,8 +20,8 @@ use Rattle.rmtool.specs.declared.statuses.Status.{Status}
 use Rattle.rmtool.specs.declared.statuses.Status.TheVariants as status
 use Rattle.rmtool.specs.Status.{error_line, status_of}
 use Rattle.rmtool.specs.Reading.{HasLeft, Reads}
-use Rattle.rmtool.specs.Running.{Did, DidSome, DidAll, Broke}
-use Rattle.rmtool.specs.Answer.{IsPlainCommand, Draws, BeginsReplies, IsDue, Begins, IsWritten, Answers, Owes, IsComplete}
+use Rattle.rmtool.specs.Running.{DidSome, DidAll, Broke}
+use Rattle.rmtool.specs.Answer.{IsPlainCommand, Draws, IsWritten, Answers, Owes, IsComplete}
 
 -- the bytes that a source has, where it tells them
 some_left : (left : Option (List ℕ)) → (bytes : List ℕ) × HasLeft left bytes

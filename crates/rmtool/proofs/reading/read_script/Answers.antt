@@ -1,4 +1,4 @@
-use Rattle.std.proofs.Common.{rules, ◌≡◌, ℕ, ◌+◌, ◌≤◌, ◌<◌, List, [], ◌++◌, length, take, Option, arith, subst, ap, sym, ◌∙◌}
+use Rattle.std.proofs.Common.{ℕ, List, arith, subst, sym, ◌∙◌}
 use Rattle.std.proofs.lemmas.List.{take_at}
 use Rattle.rm_outside.specs.Streams.{Gives}
 use Rattle.rm_outside.proofs.StreamLemmas.{Gives-none, Gives-append}
