@@ -1,5 +1,5 @@
 -- What is due at each exit of the program.
-use Rattle.std.proofs.Common.{◌≡◌, ℕ, suc, ◌+◌, ◌≤◌, ◌<◌, List, [], ◌∷◌, ◌++◌, length, take, drop, Option, Some, None, refl, sym, ap, ◌∙◌, subst, append_assoc, append-nil, length-append, codes, inl, inr, ◌⊎◌, arith}
+use Rattle.std.proofs.Common.{◌≡◌, ℕ, suc, ◌≤◌, List, [], ◌∷◌, ◌++◌, length, take, drop, Option, Some, None, refl, sym, ap, ◌∙◌, subst, append_assoc, append-nil, length-append, codes, inl, inr, ◌⊎◌, arith}
 use Rattle.std.proofs.lemmas.Grind.{flat_map-append}
 use Rattle.std.proofs.lemmas.List.{take-append-drop, take_at}
 use Rattle.rm_types.specs.declared.lines.Line.{Line}
@@ -7,9 +7,9 @@ use Rattle.rm_types.specs.declared.lines.TheConstants.{MAX_BYTES}
 use Rattle.rm_types.specs.declared.lines.Which.TheVariants as which
 use Rattle.rm_types.specs.declared.operations.Reply.{Reply}
 use Rattle.rm_model.specs.Session.{State, Run, fresh}
-use Rattle.rm_model.specs.Grammar.{IsPlain, AreLines, IsWithinLimits, IsFirstWrong, IsWrong, lines_of}
+use Rattle.rm_model.specs.Grammar.{IsPlain, AreLines, IsWithinLimits, IsFirstWrong, IsWrong}
 use Rattle.rm_model.specs.Texts.{text_of, texts_of}
-use Rattle.rm_model.proofs.Runs.{every_script_runs, runs_join, replies_are_as_many}
+use Rattle.rm_model.proofs.Runs.{every_script_runs, runs_join}
 use Rattle.rm_outside.specs.Streams.{Takes}
 use Rattle.rm_outside.proofs.StreamLemmas.{Takes-none, Takes-append}
 use Rattle.rm_script.specs.Refusals.{Refuses}
@@ -20,8 +20,8 @@ use Rattle.rmtool.specs.declared.statuses.Status.{Status}
 use Rattle.rmtool.specs.declared.statuses.Status.TheVariants as status
 use Rattle.rmtool.specs.Status.{error_line, status_of}
 use Rattle.rmtool.specs.Reading.{HasLeft, Reads}
-use Rattle.rmtool.specs.Running.{Did, DidSome, DidAll, Broke}
-use Rattle.rmtool.specs.Answer.{IsPlainCommand, Draws, BeginsReplies, IsDue, Begins, IsWritten, Answers, Owes, IsComplete}
+use Rattle.rmtool.specs.Running.{DidSome, DidAll, Broke}
+use Rattle.rmtool.specs.Answer.{IsPlainCommand, Draws, IsWritten, Answers, Owes, IsComplete}
 
 -- the bytes that a source has, where it tells them
 some_left : (left : Option (List ℕ)) → (bytes : List ℕ) × HasLeft left bytes
@@ -29,7 +29,6 @@ some_left None = ([], tt)
 some_left (Some bytes) = (bytes, refl)
 
 module _ (left a : Option (List ℕ)) (source_failed sink_failed : Type 0) where
-
   abbrev Plain : Option (List ℕ) → Status → Type 0
   Plain b answer = Owes (codes "plain" ∷ []) left a b source_failed sink_failed answer
 
@@ -75,17 +74,18 @@ module _ (left a : Option (List ℕ)) (source_failed sink_failed : Type 0) where
 pub draws_more : (bytes : List ℕ) (lines : List Line) (count : ℕ) (mid : State) (replies : List Reply) → IsWithinLimits bytes → IsPlain lines bytes → Run (fresh PAGES) (take count lines) replies mid → (others : List Reply) × Draws bytes (replies ++ others)
 draws_more bytes lines count mid replies limits plain run =
     let rest = every_script_runs mid (drop count lines) in
-    let whole = runs_join (fresh PAGES) mid rest.1 (take count lines) (drop count lines) replies rest.0 run rest.2 in
-    (rest.0, record {
-      lines = lines;
-      last = rest.1;
-      limits = limits;
-      plain = plain;
-      run = subst (λ (all : List Line). Run (fresh PAGES) all (replies ++ rest.0) rest.1) (take-append-drop count lines) whole;
-    })
+    let whole = runs_join (fresh PAGES) mid rest.1 (take count lines) (drop count lines) replies rest.0 run rest.2 in (
+      rest.0,
+      record {
+        lines = lines;
+        last = rest.1;
+        limits = limits;
+        plain = plain;
+        run = subst (λ (all : List Line). Run (fresh PAGES) all (replies ++ rest.0) rest.1) (take-append-drop count lines) whole;
+      },
+    )
 
 module _ (left a b after : Option (List ℕ)) (source_failed sink_failed : Type 0) (bytes : List ℕ) (lines : List Line) (reads : Reads left after bytes) (limits : IsWithinLimits bytes) (plain : IsPlain lines bytes) where
-
   -- memory ran out, and the lines that were done are written
   pub owes_front : DidSome (fresh PAGES) lines a b [] → Owes (codes "plain" ∷ []) left a b source_failed sink_failed status.NoMemory
   owes_front (count, mid, did) =
@@ -107,10 +107,19 @@ module _ (left a b after : Option (List ℕ)) (source_failed sink_failed : Type 
         text = did.sent;
         had = all_read left a source_failed sink_failed after bytes reads limits.few_bytes;
         took = did.took;
-        written = (failed, (status.Done, texts_of (did.replies ++ more.0), (refl, (did.replies ++ more.0, more.1, refl)),
-          (buffer ++ texts_of more.0,
-            flat_map-append text_of did.replies more.0 ∙ ap (λ t. t ++ texts_of more.0) (sym did.text) ∙ append_assoc did.sent buffer (texts_of more.0)
-            ∙ ap (λ t. t ++ (buffer ++ texts_of more.0)) (sym (append-nil did.sent)))));
+        written = (
+          failed,
+          (
+            status.Done,
+            texts_of (did.replies ++ more.0),
+            (refl, (did.replies ++ more.0, more.1, refl)),
+            (
+              buffer ++ texts_of more.0,
+              flat_map-append text_of did.replies more.0 ∙ ap (λ t. t ++ texts_of more.0) (sym did.text) ∙ append_assoc did.sent buffer (texts_of more.0)
+                  ∙ ap (λ t. t ++ (buffer ++ texts_of more.0)) (sym (append-nil did.sent)),
+            ),
+          ),
+        );
       }
 
 -- the words are no command
@@ -154,7 +163,7 @@ begins words bytes source_failed sink_failed status.NoMemory whole front rest fa
 cut_written : (words : List (List ℕ)) (bytes : List ℕ) (source_failed sink_failed : Type 0) (answer : Status) (text : List ℕ) (count : ℕ) → sink_failed → IsWritten words bytes source_failed sink_failed answer (text ++ error_line answer) → IsWritten words bytes source_failed sink_failed status.Sink (text ++ take count (error_line answer))
 cut_written words bytes source_failed sink_failed answer text count failed written =
     let cut : text ++ error_line answer ≡ (text ++ take count (error_line answer)) ++ drop count (error_line answer) =
-          ap (λ t. text ++ t) (sym (take-append-drop count (error_line answer))) ∙ sym (append_assoc text (take count (error_line answer)) (drop count (error_line answer))) in
+    ap (λ t. text ++ t) (sym (take-append-drop count (error_line answer))) ∙ sym (append_assoc text (take count (error_line answer)) (drop count (error_line answer))) in
     begins words bytes source_failed sink_failed answer (text ++ error_line answer) (text ++ take count (error_line answer)) (drop count (error_line answer)) failed cut written
 
 -- the line was cut short

@@ -1,8 +1,8 @@
 -- What was read of a source.
-use Rattle.std.proofs.Common.{◌≡◌, ℕ, ◌≤◌, ◌<◌, List, [], ◌++◌, length, Option, Some, None, refl, sym, ap, ◌∙◌, subst, append-nil, arith}
+use Rattle.std.proofs.Common.{◌≡◌, ℕ, ◌<◌, List, [], length, Option, Some, None, refl, sym, ap, ◌∙◌, subst, append-nil, arith}
 use Rattle.rm_types.specs.declared.lines.TheConstants.{MAX_BYTES}
 use Rattle.rm_outside.specs.Streams.{Gives}
-use Rattle.rmtool.specs.Reading.{HasLeft, IsReadToEnd, Reads}
+use Rattle.rmtool.specs.Reading.{Reads}
 
 -- a source that came to its end
 pub Reads-to_end : (before mid after : Option (List ℕ)) (bytes : List ℕ) → Gives before mid bytes → Gives mid after [] → ((left : List ℕ) → mid ≡ Some left → left ≡ []) → Reads before after bytes

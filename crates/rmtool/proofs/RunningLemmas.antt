@@ -1,5 +1,5 @@
 -- What was written of a session's replies, step by step.
-use Rattle.std.proofs.Common.{◌≡◌, ℕ, ◌+◌, ◌≤◌, List, [], ◌∷◌, ◌++◌, length, take, drop, Option, refl, sym, ap, ◌∙◌, subst, append_assoc, append-nil}
+use Rattle.std.proofs.Common.{◌≡◌, ℕ, List, [], ◌∷◌, ◌++◌, length, take, drop, Option, refl, sym, ap, ◌∙◌, subst, append_assoc, append-nil}
 use Rattle.std.proofs.lemmas.Grind.{flat_map-append}
 use Rattle.std.proofs.lemmas.List.{take-append-drop}
 use Rattle.std.proofs.Math.Seq.{take-length}
@@ -19,24 +19,24 @@ Did-none old a buffer empty = record { replies = []; sent = []; run = refl; took
 -- one line more, whose reply goes into the buffer
 pub Did-line : (old mid new : State) (lines : List Line) (said : Line) (told : Reply) (a b : Option (List ℕ)) (buffer more : List ℕ) → Did old mid lines a b buffer → Step mid said told new → more ≡ buffer ++ text_of told → Did old new (lines ++ said ∷ []) a b more
 Did-line old mid new lines said told a b buffer more did step is_more = record {
-    replies = did.replies ++ told ∷ [];
-    sent = did.sent;
-    run = run_goes_on old mid new lines did.replies said told did.run step;
-    took = did.took;
-    text =
-        ap (λ m. did.sent ++ m) is_more ∙ sym (append_assoc did.sent buffer (text_of told)) ∙ ap (λ t. t ++ text_of told) did.text
-        ∙ ap (λ t. texts_of did.replies ++ t) (sym (append-nil (text_of told))) ∙ sym (flat_map-append text_of did.replies (told ∷ []));
-  }
+  replies = did.replies ++ told ∷ [];
+  sent = did.sent;
+  run = run_goes_on old mid new lines did.replies said told did.run step;
+  took = did.took;
+  text =
+      ap (λ m. did.sent ++ m) is_more ∙ sym (append_assoc did.sent buffer (text_of told)) ∙ ap (λ t. t ++ text_of told) did.text
+      ∙ ap (λ t. texts_of did.replies ++ t) (sym (append-nil (text_of told))) ∙ sym (flat_map-append text_of did.replies (told ∷ []));
+}
 
 -- the sink takes a front of the buffer
 pub Did-moves : (old new : State) (lines : List Line) (a b c : Option (List ℕ)) (buffer rest : List ℕ) → Did old new lines a b buffer → Moves b c buffer rest → Did old new lines a c rest
 Did-moves old new lines a b c buffer rest did moves = record {
-    replies = did.replies;
-    sent = did.sent ++ moves.sent;
-    run = did.run;
-    took = Takes-append a b c did.sent moves.sent did.took moves.took;
-    text = append_assoc did.sent moves.sent rest ∙ ap (λ t. did.sent ++ t) (sym moves.cut) ∙ did.text;
-  }
+  replies = did.replies;
+  sent = did.sent ++ moves.sent;
+  run = did.run;
+  took = Takes-append a b c did.sent moves.sent did.took moves.took;
+  text = append_assoc did.sent moves.sent rest ∙ ap (λ t. did.sent ++ t) (sym moves.cut) ∙ did.text;
+}
 
 -- a write of a whole buffer, and one that stopped
 pub Moves-all : (a b : Option (List ℕ)) (buffer : List ℕ) → Takes a b buffer → Moves a b buffer []

@@ -16,11 +16,9 @@ mod writing;
 pub use adapters::{Input, NoVolume, Output};
 pub use command::run_command;
 pub use statuses::Status;
-
-use std::env;
-use std::io;
 use std::io::ErrorKind;
 use std::process::ExitCode;
+use std::{env, io};
 
 /// The words after the program's name.
 fn words(rt: &HostRuntime) -> io::Result<Vec<String>> {

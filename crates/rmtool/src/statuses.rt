@@ -73,8 +73,12 @@ impl Status {
                 text.push_str("\n");
             }
             Status::Source => text.push_str("error 5 source\n"),
-            Status::Limit { which: Which::Bytes } => text.push_str("error 10 limit bytes\n"),
-            Status::Limit { which: Which::Lines } => text.push_str("error 10 limit lines\n"),
+            Status::Limit {
+                which: Which::Bytes,
+            } => text.push_str("error 10 limit bytes\n"),
+            Status::Limit {
+                which: Which::Lines,
+            } => text.push_str("error 10 limit lines\n"),
             Status::NoMemory => text.push_str("error 11 memory\n"),
         }
         text

@@ -1,4 +1,4 @@
-use Rattle.std.proofs.Common.{◌≡◌, ℕ, ◌<◌, ◌≤◌, Bool, true, IsTrue, List, [], ◌∷◌, length, get_or, map, codes, refl, ap, sym, ◌∙◌, arith}
+use Rattle.std.proofs.Common.{◌≡◌, List, [], ◌∷◌, length, get_or, map, codes, refl, ap, sym, ◌∙◌, arith}
 use Rattle.std.proofs.lemmas.Slice.Eq.{bytes_eq-Decides}
 use Rattle.std.specs.Prelude.{string_bytes}
 use Rattle.rmtool.proofs.command.is_plain.Goals as goal
@@ -16,6 +16,7 @@ head x y same = cc
 pub returns-in-len1 : goal.returns-in-len1
 returns-in-len1 c =
     let one = ap (map string_bytes) (only c.args.words.now c.word-item.result (omega arith) ∙ ap (λ w. w ∷ []) (sym c.word-item.is)) in
-    let decides = bytes_eq-Decides c.as_str.result.now (codes "plain") in
-    (λ same. one ∙ ap (λ w. w ∷ []) (sym c.as_str.ensures.value ∙ decides.0 (sym c.eq.ensures ∙ same)),
-     λ same. c.eq.ensures ∙ decides.1 (c.as_str.ensures.value ∙ head _ _ (sym one ∙ same)))
+    let decides = bytes_eq-Decides c.as_str.result.now (codes "plain") in (
+      λ same. one ∙ ap (λ w. w ∷ []) (sym c.as_str.ensures.value ∙ decides.0 (sym c.eq.ensures ∙ same)),
+      λ same. c.eq.ensures ∙ decides.1 (c.as_str.ensures.value ∙ head _ _ (sym one ∙ same)),
+    )

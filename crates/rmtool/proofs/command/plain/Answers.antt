@@ -1,4 +1,4 @@
-use Rattle.std.proofs.Common.{◌≡◌, ℕ, ◌<◌, List, length, arith, ap, Err}
+use Rattle.std.proofs.Common.{length, arith, ap, Err}
 use Rattle.rmtool.proofs.AnswerLemmas.{owes_source, owes_memory, owes_refused, owes_front, owes_broke, few_lines}
 use Rattle.rmtool.proofs.command.plain.Goals as goal
 

@@ -1,4 +1,3 @@
-use Rattle.std.proofs.Common.{◌≡◌, ℕ, List}
 use Rattle.rm_outside.proofs.FaultLemmas.{Rises-later, Rises-before}
 use Rattle.rmtool.proofs.AnswerLemmas.{owes_later, answers_told, answers_cut, complete}
 use Rattle.rmtool.proofs.command.run_command.Goals as goal

@@ -1,7 +1,5 @@
-use Rattle.std.proofs.Common.{◌≡◌, ℕ, ◌+◌, ◌<◌, ◌≤◌, List, [], ◌∷◌, ◌++◌, length, take, get_or, arith, sym, subst}
+use Rattle.std.proofs.Common.{arith}
 use Rattle.std.proofs.lemmas.List.{take_more}
-use Rattle.rm_types.specs.declared.lines.Line.{Line}
-use Rattle.rmtool.specs.Running.{Did}
 use Rattle.rmtool.proofs.RunningLemmas.{Did-none, Did-line, Did-moves}
 use Rattle.rmtool.proofs.plain.do_lines.Goals as goal
 

@@ -1,4 +1,4 @@
-use Rattle.std.proofs.Common.{◌≡◌, ◌+◌, ◌≤◌, take}
+use Rattle.std.proofs.Common.{◌+◌, ◌≤◌, take}
 use Rattle.rmtool.specs.Running.{Did}
 use Rattle.rmtool.proofs.plain.do_lines.Given as goal
 

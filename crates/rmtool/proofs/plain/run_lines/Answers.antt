@@ -1,5 +1,4 @@
-use Rattle.std.proofs.Common.{◌≡◌, ℕ, List, [], length, take, refl, ap, Err}
-use Rattle.rmtool.specs.Running.{Did, Moves}
+use Rattle.std.proofs.Common.{refl, ap, Err}
 use Rattle.rmtool.proofs.RunningLemmas.{Did-none, Did-moves, DidSome-all}
 use Rattle.rmtool.proofs.plain.run_lines.Goals as goal
 

@@ -1,4 +1,4 @@
-use Rattle.std.proofs.Common.{rules, ◌≡◌, ℕ, ◌+◌, ◌≤◌, ◌<◌, List, [], ◌++◌, length, take, Option, arith, subst, ap, sym, ◌∙◌}
+use Rattle.std.proofs.Common.{ℕ, List, arith, subst, sym, ◌∙◌}
 use Rattle.std.proofs.lemmas.List.{take_at}
 use Rattle.rm_outside.specs.Streams.{Gives}
 use Rattle.rm_outside.proofs.StreamLemmas.{Gives-none, Gives-append}
@@ -8,10 +8,10 @@ use Rattle.rmtool.proofs.reading.read_script.Goals as goal
 
 pub loop-script-init : goal.loop-script-init
 loop-script-init g c = record {
-    gave = subst (λ (piece : List ℕ). Gives (g.S.Source.left c.args.script.now) (g.S.Source.left c.args.script.now) piece) (sym c.new-bytes.ensures.items) (Gives-none _);
-    kept = omega arith;
-    room = c.in_ok-chunk.ensures;
-  }
+  gave = subst (λ (piece : List ℕ). Gives (g.S.Source.left c.args.script.now) (g.S.Source.left c.args.script.now) piece) (sym c.new-bytes.ensures.items) (Gives-none _);
+  kept = omega arith;
+  room = c.in_ok-chunk.ensures;
+}
 
 pub returns-in_err-count-clause-failed : goal.returns-in_err-count-clause-failed
 returns-in_err-count-clause-failed g c = λ _. Rises-before _ _ _ c.loop-script.invariant.kept c.in_err-count.ensures.cause.counted
@@ -21,10 +21,10 @@ returns-then-count-eq0-clause-bytes g c = Reads-to_end _ _ _ _ c.loop-script.inv
 
 pub loop-script-preserved : goal.loop-script-preserved
 loop-script-preserved g c = record {
-    gave = rw c.in_ok-extend_from_slice.ensures.items (Gives-append _ _ _ _ _ c.loop-script.invariant.gave (rw (c.deref.ensures.value ∙ take_at c.read.new.into _ c.loop-script.chunk.len (omega arith)) c.in_ok-count.ensures.bytes));
-    kept = omega (arith, c.in_ok-count.ensures.cause.kept);
-    room = c.loop-script.invariant.room;
-  }
+  gave = rw c.in_ok-extend_from_slice.ensures.items (Gives-append _ _ _ _ _ c.loop-script.invariant.gave (rw (c.deref.ensures.value ∙ take_at c.read.new.into _ c.loop-script.chunk.len (omega arith)) c.in_ok-count.ensures.bytes));
+  kept = omega (arith, c.in_ok-count.ensures.cause.kept);
+  room = c.loop-script.invariant.room;
+}
 
 pub returns-clause-bytes : goal.returns-clause-bytes
 returns-clause-bytes g c = Reads-too_much _ _ _ c.loop-script.invariant.gave (omega arith)

@@ -1,4 +1,4 @@
-use Rattle.std.proofs.Common.{◌≡◌, ℕ, ◌+◌, ◌≤◌, List, take, drop, length, Option, subst, ap, arith, length-drop}
+use Rattle.std.proofs.Common.{◌≡◌, ℕ, ◌+◌, List, take, drop, length, Option, subst, ap, arith, length-drop}
 use Rattle.std.proofs.lemmas.Grind.{common_steps}
 use Rattle.std.proofs.lemmas.Result.{err_from_is_err_and}
 use Rattle.rm_outside.specs.Streams.{Takes}
@@ -18,6 +18,6 @@ returns-in_err-count-clause-err g c =
 
 pub loop-rest-preserved : goal.loop-rest-preserved
 loop-rest-preserved g c = record {
-    sent = (c.loop-rest.invariant.sent.0 + c.in_ok-count.count, omega (arith, c.in_ok-count.ensures.bound, ap length c.loop-rest.invariant.sent.2, length-drop {A = ℕ}), grind (arith, common_steps, c.loop-rest.invariant.sent.2), sent_more _ _ _ _ _ _ _ c.loop-rest.invariant.sent.2 c.loop-rest.invariant.sent.3 c.in_ok-count.ensures.bytes);
-    kept = omega (arith, c.in_ok-count.ensures.cause.kept);
-  }
+  sent = (c.loop-rest.invariant.sent.0 + c.in_ok-count.count, omega (arith, c.in_ok-count.ensures.bound, ap length c.loop-rest.invariant.sent.2, length-drop {A = ℕ}), grind (arith, common_steps, c.loop-rest.invariant.sent.2), sent_more _ _ _ _ _ _ _ c.loop-rest.invariant.sent.2 c.loop-rest.invariant.sent.3 c.in_ok-count.ensures.bytes);
+  kept = omega (arith, c.in_ok-count.ensures.cause.kept);
+}
