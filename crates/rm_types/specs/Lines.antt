@@ -1,8 +1,7 @@
-use Rattle.std.specs.Prelude.{ℕ, List, Option, Some, None}
+use Rattle.std.specs.Prelude.{List, Option, Some, None}
 use Rattle.rm_types.specs.declared.numbers.Rid.{Rid}
 use Rattle.rm_types.specs.declared.lines.Line.{Line}
 use Rattle.rm_types.specs.declared.lines.Line.TheVariants as line
-use Rattle.rm_types.specs.declared.lines.Target.{Target}
 use Rattle.rm_types.specs.declared.lines.Target.TheVariants as target
 use Rattle.rm_types.specs.declared.operations.Op.{Op}
 use Rattle.rm_types.specs.declared.operations.Op.TheVariants as op

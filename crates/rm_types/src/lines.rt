@@ -1,6 +1,7 @@
 //! The lines of a script.
 
-ghost use Rattle.std.specs.Prelude.{◌≡◌, ◌<◌, IfOk};
+ghost use Rattle.std.specs.Prelude.{◌≡◌, ℕ, ◌<◌, List, IfOk, OnErr};
+ghost use Rattle.rm_types.specs.declared.lines.Line.TheVariants.{Insert};
 ghost use Rattle.rm_types.specs.Lines.{op_of};
 
 use crate::bindings::Names;
@@ -70,8 +71,10 @@ pub enum Line {
 
 impl Line {
     /// The line's operation, with its name read as it is bound now: [`Op::Unbound`] exactly where it is not.
+    /// Only an insert takes memory.
     pub fn op(&self, names: &Names) -> Result<Op, NoMemory>
-        ensures { IfOk result (λ op. op ≡ op_of self.now names.now) }
+        ensures value { IfOk result (λ op. op ≡ op_of self.now names.now) }
+        ensures memory { OnErr result ((name : ℕ) × (row : List ℕ) × (self.now ≡ Insert name row)) }
     {
         Ok(match self {
             Line::Begin => Op::Begin,

@@ -1,10 +1,11 @@
 //! The program's own outside: a reader as a source, a writer as a sink, and a volume that is not there.
 //!
-//! They tell nothing of the bytes that they give and take, since no proof can say what a terminal or a pipe
-//! does. They count their failures; a call that a signal interrupted is made again.
+//! They tell the bytes that their reader or writer tells. A terminal or a pipe tells none, since no proof can
+//! say what it does. They count their failures; a call that a signal interrupted is made again.
 
-ghost use Rattle.std.specs.Prelude.{None, ◌≤◌};
-ghost use Rattle.rm_outside.specs.Faults.{Rises, HasCause};
+ghost use Rattle.std.specs.Prelude.{◌≡◌, ◌≤◌, ◌<◌, ◌+◌, IsErr};
+ghost use Rattle.rm_types.specs.declared.areas.Area.{Area};
+ghost use Rattle.rm_outside.specs.Faults.{Rises, HasCause, last_count};
 
 use rm_outside::{Failed, Sink, Source, Volume};
 use rm_types::Area;
@@ -14,6 +15,7 @@ use std::io::{ErrorKind, Read, Write};
 fn one_more(faults: u64) -> u64
     ensures rises { Rises faults result }
     ensures kept { faults ≤ result }
+    ensures by_one { faults < last_count → result ≡ faults + 1 }
 {
     faults.saturating_add(1)
 }
@@ -26,7 +28,11 @@ pub struct Input<R> {
 }
 
 impl<R> Input<R> {
-    pub fn new(reader: R) -> Self {
+    /// A source of what the reader gives, which has not failed yet.
+    pub fn new(reader: R) -> Self
+        ensures reader { result.reader ≡ reader }
+        ensures faults { result.faults ≡ 0 }
+    {
         Input { reader, faults: 0 }
     }
 }
@@ -34,7 +40,7 @@ impl<R> Input<R> {
 impl<R: Read> Source for Input<R> {
     ghost faults = { λ input. input.faults };
 
-    ghost left = { λ _. None };
+    ghost left = { λ input. R.remaining input.reader };
 
     fn read(&mut self, into: &mut [u8]) -> Result<usize, Failed> {
         for _ in 0..u64::MAX {
@@ -57,7 +63,11 @@ pub struct Output<W> {
 }
 
 impl<W> Output<W> {
-    pub fn new(writer: W) -> Self {
+    /// A sink that writes to the writer, and which has not failed yet.
+    pub fn new(writer: W) -> Self
+        ensures writer { result.writer ≡ writer }
+        ensures faults { result.faults ≡ 0 }
+    {
         Output { writer, faults: 0 }
     }
 }
@@ -65,7 +75,7 @@ impl<W> Output<W> {
 impl<W: Write> Sink for Output<W> {
     ghost faults = { λ output. output.faults };
 
-    ghost taken = { λ _. None };
+    ghost taken = { λ output. W.contents output.writer };
 
     fn write(&mut self, from: &[u8]) -> Result<usize, Failed> {
         for _ in 0..u64::MAX {
@@ -87,12 +97,16 @@ pub struct NoVolume {
 }
 
 impl NoVolume {
-    pub fn new() -> Self {
+    /// A volume that has not failed yet.
+    pub fn new() -> Self
+        ensures { result.faults ≡ 0 }
+    {
         NoVolume { faults: 0 }
     }
 
     fn fail(&mut self) -> Result<(), Failed>
-        ensures { HasCause self.old.faults self.new.faults result }
+        ensures fails { IsErr result }
+        ensures cause { HasCause self.old.faults self.new.faults result }
     {
         self.faults = one_more(self.faults);
         Err(Failed)
@@ -102,15 +116,27 @@ impl NoVolume {
 impl Volume for NoVolume {
     ghost faults = { λ volume _. volume.faults };
 
-    fn read(&mut self, _area: Area, _at: u64, _into: &mut [u8]) -> Result<(), Failed> {
+    fn read(&mut self, _area: Area, _at: u64, _into: &mut [u8]) -> Result<(), Failed>
+        ensures fails { IsErr result }
+        ensures counts { (other : Area) → self.old.faults ≤ self.new.faults }
+        ensures cause { HasCause self.old.faults self.new.faults result }
+    {
         self.fail()
     }
 
-    fn write(&mut self, _area: Area, _at: u64, _from: &[u8]) -> Result<(), Failed> {
+    fn write(&mut self, _area: Area, _at: u64, _from: &[u8]) -> Result<(), Failed>
+        ensures fails { IsErr result }
+        ensures counts { (other : Area) → self.old.faults ≤ self.new.faults }
+        ensures cause { HasCause self.old.faults self.new.faults result }
+    {
         self.fail()
     }
 
-    fn sync(&mut self, _area: Area) -> Result<(), Failed> {
+    fn sync(&mut self, _area: Area) -> Result<(), Failed>
+        ensures fails { IsErr result }
+        ensures counts { (other : Area) → self.old.faults ≤ self.new.faults }
+        ensures cause { HasCause self.old.faults self.new.faults result }
+    {
         self.fail()
     }
 }

@@ -31,9 +31,10 @@ fn flush<K: Sink>(text: &mut Vec<u8>, out: &mut K) -> Result<(), Failed>
     Ok(())
 }
 
-/// Writes the text that was gathered once it is long.
+/// Writes the text that was gathered once it is long, so that less than [`BUFFER`] bytes are left.
 fn flush_if_long<K: Sink>(text: &mut Vec<u8>, out: &mut K) -> Result<(), Failed>
     ensures ok { OnOk result (Moves (K.taken out.old) (K.taken out.new) text.old.items text.new.items) }
+    ensures short { OnOk result (length text.new.items < BUFFER) }
     ensures err { OnErr result ((rest : List ℕ) × Moves (K.taken out.old) (K.taken out.new) text.old.items rest) }
     ensures cause { HasCause (K.faults out.old) (K.faults out.new) result }
 {
