@@ -31,7 +31,7 @@ fn flush<K: Sink>(text: &mut Vec<u8>, out: &mut K) -> Result<(), Failed>
     Ok(())
 }
 
-/// Writes the text that was gathered once it is long, so that less than [`BUFFER`] bytes are left.
+/// Writes the text that was gathered once it is long, so that fewer than [`BUFFER`] bytes of it stay.
 fn flush_if_long<K: Sink>(text: &mut Vec<u8>, out: &mut K) -> Result<(), Failed>
     ensures ok { OnOk result (Moves (K.taken out.old) (K.taken out.new) text.old.items text.new.items) }
     ensures short { OnOk result (length text.new.items < BUFFER) }
