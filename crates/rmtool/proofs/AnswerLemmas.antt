@@ -21,7 +21,7 @@ use Rattle.rmtool.specs.declared.statuses.Status.TheVariants as status
 use Rattle.rmtool.specs.Status.{error_line, status_of}
 use Rattle.rmtool.specs.Reading.{HasLeft, Reads}
 use Rattle.rmtool.specs.Running.{DidSome, DidAll, Broke}
-use Rattle.rmtool.specs.Answer.{IsPlainCommand, Draws, IsWritten, Answers, Owes, IsComplete}
+use Rattle.rmtool.specs.Answer.{IsPlainCommand, Draws, IsWritten, Answers, Owes, Tells, IsComplete}
 
 -- the bytes that a source has, where it tells them
 some_left : (left : Option (List ℕ)) → (bytes : List ℕ) × HasLeft left bytes
@@ -214,3 +214,15 @@ few_lines [] [] spelled = refl
 few_lines (said ∷ lines) (text ∷ texts) spelled = ap suc (few_lines lines texts spelled.1)
 few_lines [] (text ∷ texts) spelled = absurd spelled
 few_lines (said ∷ lines) [] spelled = absurd spelled
+
+-- What is owed and then told is the answer.
+pub answers_from_tells : (words : List (List ℕ)) (left a b c : Option (List ℕ)) (source_failed sink_failed : Type 0) (told answer : Status) → Owes words left a b source_failed sink_failed told → Tells b c sink_failed told answer → Answers words left a c source_failed sink_failed answer
+answers_from_tells words left a b c source_failed sink_failed told answer owes (inl whole) =
+    subst (λ (s : Status). Answers words left a c source_failed sink_failed s) (sym whole.0) (answers_told words left a b c source_failed sink_failed told owes whole.1)
+answers_from_tells words left a b c source_failed sink_failed told answer owes (inr cut) =
+    subst (λ (s : Status). Answers words left a c source_failed sink_failed s) (sym cut.0) (answers_cut words left a b c source_failed sink_failed told cut.2.0 cut.1 owes cut.2.1)
+
+-- a sink that failed later has failed
+pub tells_later : (b c : Option (List ℕ)) (sink_failed failed_later : Type 0) (told answer : Status) → (sink_failed → failed_later) → Tells b c sink_failed told answer → Tells b c failed_later told answer
+tells_later b c sink_failed failed_later told answer then_later (inl whole) = inl whole
+tells_later b c sink_failed failed_later told answer then_later (inr cut) = inr (cut.0, then_later cut.1, cut.2)

@@ -69,6 +69,12 @@ pub record Owes (words : List (List ℕ)) (left before after : Option (List ℕ)
   pub took : Takes before after text
   pub written : IsWritten words bytes source_failed sink_failed answer (text ++ error_line answer)
 
+-- The line that tells of a status was written, or the sink failed in it.
+abbrev pub Tells : Option (List ℕ) → Option (List ℕ) → Type 0 → Status → Status → Type 0
+Tells before after sink_failed told answer =
+    ((answer ≡ told) × Takes before after (error_line told))
+    ⊎ ((answer ≡ status.Sink) × sink_failed × ((count : ℕ) × Takes before after (take count (error_line told))))
+
 -- Where the words are right, the source tells a script in the plain form within the limits, and nothing
 -- fails, the command is done, unless memory runs out.
 abbrev pub IsComplete : List (List ℕ) → Option (List ℕ) → Type 0 → Type 0 → Status → Type 0

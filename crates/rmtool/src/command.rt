@@ -3,7 +3,7 @@
 ghost use Rattle.std.specs.Prelude.{◌≡◌, ◌≤◌, ◌⊎◌, ◌↔◌, [], ◌∷◌, codes, IsTrue, map, string_bytes};
 ghost use Rattle.rm_outside.specs.Faults.{Rises};
 ghost use Rattle.rmtool.specs.Reading.{IsReadToEnd};
-ghost use Rattle.rmtool.specs.Answer.{IsPlainCommand, Owes, Answers, IsComplete};
+ghost use Rattle.rmtool.specs.Answer.{IsPlainCommand, Owes, Answers, Tells, IsComplete};
 
 use crate::plain::run_lines;
 use crate::reading::read_script;
@@ -67,6 +67,17 @@ fn do_command<S: Source, K: Sink>(
     plain(alloc, script, out)
 }
 
+/// Writes the line that tells of a status, and answers that status, or [`Status::Sink`] where the sink fails.
+pub fn tell<K: Sink>(status: Status, out: &mut K) -> Status
+    ensures told { Tells (K.taken out.old) (K.taken out.new) (Rises (K.faults out.old) (K.faults out.new)) status result }
+    ensures kept { K.faults out.old ≤ K.faults out.new }
+{
+    match write_all(out, status.line().as_str().as_bytes()) {
+        Ok(()) => status,
+        Err(Failed) => Status::Sink,
+    }
+}
+
 /// Does a command: reads its script from `script`, and writes what it prints to `out`. The volume is the
 /// one that later commands work on; `plain` does not touch it.
 ///
@@ -95,8 +106,5 @@ pub fn run_command<V: Volume, S: Source, K: Sink>(
 {
     let _ = volume;
     let status = do_command(alloc, words, script, out);
-    match write_all(out, status.line().as_str().as_bytes()) {
-        Ok(()) => status,
-        Err(Failed) => Status::Sink,
-    }
+    tell(status, out)
 }

@@ -16,7 +16,7 @@ mod tests;
 mod writing;
 
 pub use adapters::{Input, NoVolume, Output};
-pub use command::run_command;
+pub use command::{run_command, tell};
 pub use statuses::Status;
 use std::io::ErrorKind;
 use std::process::ExitCode;
@@ -32,17 +32,17 @@ fn words(rt: &HostRuntime) -> io::Result<Vec<String>> {
 }
 
 fn main(rt: HostRuntime) -> ExitCode {
+    let mut out = Output::new(rt.stdout());
     let words = match words(&rt) {
         Ok(words) => words,
         Err(error) if error.kind() == ErrorKind::OutOfMemory => {
-            return ExitCode::from(Status::NoMemory.number());
+            return ExitCode::from(tell(Status::NoMemory, &mut out).number());
         }
         // A word that is no text is in no command's form, and nor is no word.
         Err(_) => Vec::new(rt.alloc()),
     };
     let mut volume = NoVolume::new();
     let mut script = Input::new(rt.stdin());
-    let mut out = Output::new(rt.stdout());
     let status = run_command(
         rt.alloc(),
         words.as_slice(),
