@@ -1,3 +1,6 @@
 pub mod Faults
 pub mod Streams
 pub mod Areas
+pub mod Images
+pub mod Moments
+pub mod Counts

@@ -7,6 +7,7 @@
 
 mod areas;
 mod bindings;
+mod faults;
 mod lines;
 mod memory;
 mod numbers;
@@ -16,9 +17,10 @@ mod slots;
 
 pub use areas::Area;
 pub use bindings::Names;
+pub use faults::{Fault, StoreFault};
 pub use lines::{Line, MAX_BYTES, MAX_LINES, Name, Script, Target, Which};
 pub use memory::NoMemory;
-pub use numbers::{Lsn, MAX_SLOT, Rid, TxnId};
+pub use numbers::{Lsn, MAX_LOG, MAX_PAGES, MAX_SLOT, Rid, TxnId};
 pub use operations::{Op, Reply};
 pub use rows::{MAX_ROW, Row};
 pub use slots::{CAPACITY, SLOT_ENTRY, Slot};

@@ -3,6 +3,12 @@
 /// The greatest slot number that a row id may name: a page has at most 1,020 slots.
 pub const MAX_SLOT: u16 = 1019;
 
+/// The most pages that a file has.
+pub const MAX_PAGES: u32 = 16_384;
+
+/// The greatest offset in the log at which a record may end.
+pub const MAX_LOG: u64 = 1 << 48;
+
 /// A log sequence number: the offset of a record's first byte in the log, 0 for none.
 #[derive(Clone, Copy, Debug, PartialEq, Eq, PartialOrd, Ord)]
 pub struct Lsn(pub u64);

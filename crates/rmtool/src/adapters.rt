@@ -114,6 +114,26 @@ impl NoVolume {
 }
 
 impl Volume for NoVolume {
+    ghost use Rattle.std.specs.Prelude.{false};
+
+    ghost tells = { false };
+
+    ghost content = { λ _ _ _. 0 };
+
+    ghost may_leave = { λ _ _. ⊥ };
+
+    ghost moment = { λ _. 0 };
+
+    ghost left_since = { λ _ _ _. ⊥ };
+
+    ghost faults = { λ volume _. volume.faults };
+
+    ghost data_reads = { λ _. 0 };
+
+    ghost log_reads = { λ _. 0 };
+
+    ghost reference = { λ _. 0 };
+
     ghost faults = { λ volume _. volume.faults };
 
     fn read(&mut self, _area: Area, _at: u64, _into: &mut [u8]) -> Result<(), Failed>
