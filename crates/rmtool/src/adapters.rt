@@ -114,7 +114,9 @@ impl NoVolume {
 }
 
 impl Volume for NoVolume {
-    ghost use Rattle.std.specs.Prelude.{false};
+    ghost use Rattle.std.specs.Prelude.{false, true, ◌≡◌, ℕ};
+    ghost use Rattle.rm_outside.specs.Faults.{last_count};
+    ghost use Rattle.std.proofs.Common.{rules};
 
     ghost tells = { false };
 
@@ -128,35 +130,29 @@ impl Volume for NoVolume {
 
     ghost faults = { λ volume _. volume.faults };
 
-    ghost data_reads = { λ _. 0 };
+    ghost data_reads = { λ _. last_count };
 
-    ghost log_reads = { λ _. 0 };
+    ghost log_reads = { λ _. last_count };
 
     ghost reference = { λ _. 0 };
 
-    ghost faults = { λ volume _. volume.faults };
+    ghost counts_now = { λ _ _ _ _ left. left };
 
-    fn read(&mut self, _area: Area, _at: u64, _into: &mut [u8]) -> Result<(), Failed>
-        ensures fails { IsErr result }
-        ensures counts { (other : Area) → self.old.faults ≤ self.new.faults }
-        ensures cause { HasCause self.old.faults self.new.faults result }
-    {
+    ghost only_now = { λ _ _ left. left };
+
+    ghost only_told = { λ _ _ left. absurd left };
+
+    ghost content_may_stay = { λ _ told. Prim.cc };
+
+    fn read(&mut self, _area: Area, _at: u64, _into: &mut [u8]) -> Result<(), Failed> {
         self.fail()
     }
 
-    fn write(&mut self, _area: Area, _at: u64, _from: &[u8]) -> Result<(), Failed>
-        ensures fails { IsErr result }
-        ensures counts { (other : Area) → self.old.faults ≤ self.new.faults }
-        ensures cause { HasCause self.old.faults self.new.faults result }
-    {
+    fn write(&mut self, _area: Area, _at: u64, _from: &[u8]) -> Result<(), Failed> {
         self.fail()
     }
 
-    fn sync(&mut self, _area: Area) -> Result<(), Failed>
-        ensures fails { IsErr result }
-        ensures counts { (other : Area) → self.old.faults ≤ self.new.faults }
-        ensures cause { HasCause self.old.faults self.new.faults result }
-    {
+    fn sync(&mut self, _area: Area) -> Result<(), Failed> {
         self.fail()
     }
 }
