@@ -4,3 +4,4 @@ pub mod Areas
 pub mod Images
 pub mod Moments
 pub mod Counts
+pub mod Reading
