@@ -1,0 +1,19 @@
+//! Log records: what a transaction did, and how it is spelled in the log.
+//!
+//! Each record has one spelling, and no spelling begins another, so that records one after another are
+//! read back as they were written. A record's numbers are in their ranges: bytes that break one are no record.
+#![tactic(auto)]
+
+mod fields;
+mod laws;
+mod reading;
+mod records;
+mod refused;
+mod writing;
+
+pub use laws::{no_spelling_begins_another, spellings_are_short};
+pub use records::{LogRecord, MAX_RECORD, MIN_RECORD};
+pub use refused::DecodeRefused;
+
+#[cfg(test)]
+mod tests;

@@ -1,0 +1,38 @@
+//! Why bytes are not read as a record.
+
+ghost use Rattle.std.specs.Prelude.{◌≡◌};
+ghost use Rattle.rm_record.specs.declared.refused.DecodeRefused.TheVariants as refused;
+
+use std::alloc::{AllocError, AllocFailed};
+
+/// Why bytes are not read as a record.
+#[derive(Clone, Copy, Debug, PartialEq, Eq)]
+pub enum DecodeRefused {
+    /// No front of the bytes is a record.
+    Bad,
+    NoMemory,
+}
+
+impl From<AllocError> for DecodeRefused {
+    ghost from_gives = { λ _ e. e ≡ refused.NoMemory };
+
+    fn from(_e: AllocError) -> DecodeRefused {
+        DecodeRefused::NoMemory
+    }
+}
+
+impl<T: Drop> From<AllocFailed<T>> for DecodeRefused {
+    ghost from_gives = { λ _ e. e ≡ refused.NoMemory };
+
+    fn from(_e: AllocFailed<T>) -> DecodeRefused {
+        DecodeRefused::NoMemory
+    }
+}
+
+impl From<rm_types::NoMemory> for DecodeRefused {
+    ghost from_gives = { λ _ e. e ≡ refused.NoMemory };
+
+    fn from(_e: rm_types::NoMemory) -> DecodeRefused {
+        DecodeRefused::NoMemory
+    }
+}
