@@ -54,3 +54,10 @@ impl LogRecord {
         }
     }
 }
+
+/// A record of a log, with the offset of its first byte.
+#[derive(Debug, Drop)]
+pub struct Logged {
+    pub lsn: Lsn,
+    pub what: LogRecord,
+}

@@ -1,0 +1,4 @@
+pub mod Onto
+pub mod Settled
+pub mod Readings
+pub mod Undo

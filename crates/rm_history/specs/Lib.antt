@@ -1,0 +1,4 @@
+pub mod Logs
+pub mod Histories
+pub mod Legal
+pub mod Laws
