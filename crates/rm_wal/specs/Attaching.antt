@@ -1,0 +1,16 @@
+-- What is read when a log is attached.
+use Rattle.std.specs.Prelude.{◌≡◌, ℕ, List, [], reverse}
+use Rattle.rm_outside.specs.Images.{Bytes}
+use Rattle.rm_record.specs.declared.records.Logged.{Logged}
+use Rattle.rm_history.specs.Logs.{Batch, gate_of, AreBatches, HasLog}
+use Rattle.rm_history.specs.Histories.{history_of}
+use Rattle.rm_wal.specs.Tails.{LogValue}
+
+-- The log in memory stands behind the batches of the area, which it tells if told, and the records are
+-- those of the batches, the oldest first.
+pub record Attaches (told : Type 0) (area : Bytes) (limit : ℕ) (log : LogValue) (records : List Logged) : Type 0 where
+  pub batches : List Batch
+  pub are_batches : AreBatches batches
+  pub has_log : told → HasLog area batches
+  pub log_is : log ≡ record { batch = gate_of batches; tail = []; limit = limit }
+  pub history_is : history_of batches ≡ reverse records

@@ -1,0 +1,3 @@
+pub mod Tails
+pub mod Flushing
+pub mod Attaching

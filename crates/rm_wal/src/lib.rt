@@ -1,0 +1,14 @@
+//! The write-ahead log: batches of records in area Log, each behind a gate byte that is opened by a
+//! write of its own once the batch is durable.
+//!
+//! A [`Log`] is its tail, which is the bytes of the records that are not durable yet, and the offset of
+//! the gate that they will stand behind. That gate stays closed until the tail is durable behind it, so
+//! a crash at any moment leaves the log as it was before a flush, or with the whole tail.
+#![tactic(auto)]
+
+mod attaching;
+mod flushing;
+mod log;
+
+pub use attaching::Attached;
+pub use log::{LONG_TAIL, Log, LogFull};

@@ -1,0 +1,211 @@
+//! The log in memory: its tail, and how it is made durable.
+
+ghost use Rattle.std.specs.Prelude.{◌≡◌, ℕ, ◌+◌, ◌<◌, ◌≤◌, List, [], ◌++◌, length, drop, vec_len, vec_capacity, IfOk, IsOk, OnOk, OnErr, Err, MatchResult};
+ghost use Rattle.std.specs.Int.{w32, to_be_bytes};
+ghost use Rattle.rm_types.specs.declared.areas.Area.{Area as Areas};
+ghost use Rattle.rm_types.specs.declared.faults.Fault.{Fault as Faults};
+ghost use Rattle.rm_types.specs.declared.numbers.TheConstants.{MAX_LOG};
+ghost use Rattle.rm_outside.specs.Images.{Image};
+ghost use Rattle.rm_outside.specs.Faults.{Rises};
+ghost use Rattle.rm_outside.specs.Moments.{IsDurable, LeavesOnly};
+ghost use Rattle.rm_record.specs.Records.{spelling, IsRecord};
+ghost use Rattle.rm_history.specs.declared.TheConstants.{BATCH_HEADER, MAX_BATCH};
+ghost use Rattle.rm_wal.specs.Tails.{end_of};
+ghost use Rattle.rm_wal.specs.Flushing.{ComesByFlush, IsFlushed, written_tail};
+
+use crate::flushing::write_batch;
+use rm_history::BATCH_HEADER;
+use rm_outside::Volume;
+use rm_record::LogRecord;
+use rm_types::{Area, Fault, Lsn, NoMemory};
+use std::alloc::Global;
+use std::marker::Model;
+
+/// A tail that is longer, in bytes, is flushed before a record is appended.
+pub const LONG_TAIL: u64 = 1_048_576;
+
+/// How many bytes of a batch's header stand in the buffer before its records: the length.
+const LENGTH_BYTES: usize = 4;
+
+/// The log has no room: `end` is the offset that the next record would have.
+#[derive(Clone, Copy, Debug, PartialEq, Eq)]
+pub struct LogFull {
+    pub end: u64,
+}
+
+/// The log in memory, behind the batches of the area that are durable.
+#[derive(Debug, Drop)]
+pub struct Log {
+    // Four bytes for the length of the records, and the records; with room for one byte more.
+    buffer: Vec<u8>,
+    batch: u64,
+    limit: u64,
+}
+
+impl Model for Log {
+    ghost use Rattle.std.specs.Prelude.{ℕ, ◌+◌, ◌≤◌, ◌<◌, drop, vec_len, vec_capacity};
+    ghost use Rattle.rm_types.specs.declared.numbers.TheConstants.{MAX_LOG};
+    ghost use Rattle.rm_history.specs.declared.TheConstants.{MAX_BATCH};
+    ghost use Rattle.rm_wal.specs.Tails.{LogValue};
+
+    ghost Value = { LogValue };
+
+    ghost view = { λ log. record { batch = log.batch; tail = drop 4 log.buffer.items; limit = log.limit } };
+
+    ghost invariant = { λ log. (4 ≤ vec_len log.buffer) × (vec_len log.buffer ≤ 4 + MAX_BATCH) × (vec_len log.buffer < vec_capacity log.buffer)
+        × (log.batch ≤ MAX_LOG) × (4 < vec_len log.buffer → log.batch + (1 + vec_len log.buffer) ≤ MAX_LOG) × (log.limit ≤ MAX_LOG) };
+}
+
+// Puts the length of the records into the first four bytes.
+fn put_length(bytes: &mut [u8], records: u32)
+    requires { 4 ≤ length bytes.old }
+    ensures { bytes.new ≡ to_be_bytes w32 records ++ drop 4 bytes.old }
+{
+    let [a, b, c, d] = records.to_be_bytes();
+    bytes[0] = a;
+    bytes[1] = b;
+    bytes[2] = c;
+    bytes[3] = d;
+}
+
+// Puts the length of the records before them, and a closed gate behind them.
+fn close(buffer: &mut Vec<u8>)
+    requires from { 4 ≤ vec_len buffer.old }
+    requires short { vec_len buffer.old ≤ 4 + MAX_BATCH }
+    requires room { vec_len buffer.old < vec_capacity buffer.old }
+    ensures items { buffer.new.items ≡ written_tail (drop 4 buffer.old.items) }
+    ensures len { vec_len buffer.new ≡ vec_len buffer.old + 1 }
+    ensures capacity { vec_capacity buffer.new ≡ vec_capacity buffer.old }
+{
+    let records = buffer.len() - LENGTH_BYTES;
+    put_length(buffer.as_mut_slice(), records as u32);
+    buffer.push_reserved(0);
+}
+
+impl Log {
+    /// A log with an empty tail behind the gate at `batch`, which grows up to `limit`; both are at most 2^48.
+    ///
+    /// # Errors
+    ///
+    /// [`NoMemory`] alone.
+    pub(crate) fn new(alloc: Global, batch: u64, limit: u64) -> Result<Log, NoMemory>
+        requires batch { batch ≤ MAX_LOG }
+        requires limit { limit ≤ MAX_LOG }
+        ensures { IfOk result (λ log. log ≡ record { batch = batch; tail = []; limit = limit }) }
+    {
+        let mut buffer = Vec::with_capacity(alloc, LENGTH_BYTES + 1)?;
+        buffer.extend_from_slice(&[0; LENGTH_BYTES])?;
+        Ok(Log {
+            buffer,
+            batch,
+            limit,
+        })
+    }
+
+    /// The offset of the gate of the batch that is being filled.
+    pub fn batch(&self) -> u64
+        ensures value { result ≡ self.now.batch }
+        ensures bound { self.now.batch ≤ MAX_LOG }
+    {
+        self.batch
+    }
+
+    /// The first offset that is not durable: that of the gate of the batch that is being filled.
+    pub fn durable(&self) -> u64
+        ensures { result ≡ self.now.batch }
+    {
+        self.batch
+    }
+
+    /// How many bytes of records are not durable, at most 2,097,152.
+    pub fn tail(&self) -> u64
+        ensures value { result ≡ length self.now.tail }
+        ensures bound { length self.now.tail ≤ MAX_BATCH }
+    {
+        (self.buffer.len() - LENGTH_BYTES) as u64
+    }
+
+    /// The offset that the next record has, at most 5 more than 2^48.
+    pub fn end(&self) -> u64
+        ensures value { result ≡ end_of self.now }
+        ensures bound { end_of self.now ≤ MAX_LOG + BATCH_HEADER }
+    {
+        self.batch + BATCH_HEADER + self.tail()
+    }
+
+    /// Whether `cost` more bytes fit beside `owed` ones, up to the log's limit.
+    ///
+    /// # Errors
+    ///
+    /// [`LogFull`] exactly where the end, `cost` and `owed` are together over the limit.
+    pub fn room(&self, cost: u64, owed: u64) -> Result<(), LogFull>
+        ensures { MatchResult result (λ _. end_of self.now + cost + owed ≤ self.now.limit)
+            (λ full. (full.end ≡ end_of self.now) × (self.now.limit < end_of self.now + cost + owed)) }
+    {
+        let end = self.end();
+        if end.saturating_add(cost).saturating_add(owed) > self.limit {
+            return Err(LogFull { end });
+        }
+        Ok(())
+    }
+
+    /// Appends a record, which is not durable yet, and answers its LSN.
+    ///
+    /// # Errors
+    ///
+    /// [`NoMemory`] leaves the log as it was.
+    pub fn append(&mut self, next: &LogRecord) -> Result<Lsn, NoMemory>
+        requires is_record { IsRecord next.now }
+        requires in_log { end_of self.old + length (spelling next.now) ≤ MAX_LOG }
+        requires short { length self.old.tail + length (spelling next.now) ≤ MAX_BATCH }
+        ensures lsn { IfOk result (λ lsn. lsn.0 ≡ end_of self.old) }
+        ensures ok { OnOk result (self.new ≡ record self.old { tail = self.old.tail ++ spelling next.now }) }
+        ensures err { OnErr result (self.new ≡ self.old) }
+    {
+        let lsn = Lsn(self.end());
+        // One byte more, so that a flush takes no memory.
+        self.buffer.reserve(next.size() as usize + 1)?;
+        next.encode(&mut self.buffer)?;
+        Ok(lsn)
+    }
+
+    /// Makes the tail durable: writes it behind its closed gate with a closed gate behind it, syncs, opens
+    /// the gate, and syncs (docs/FORMATS.md, "Log"). An empty tail makes no call of the volume. It takes no memory.
+    ///
+    /// # Errors
+    ///
+    /// [`Fault::Volume`] with area Log, where it failed. The log then answers for nothing, and is to be
+    /// attached again.
+    pub fn flush<V: Volume>(&mut self, volume: &mut V) -> Result<(), Fault>
+        requires { IsDurable Area.Log (V.content volume.old) (V.may_leave volume.old) }
+
+        ensures empty { self.old.tail ≡ [] → IsOk result × (self.new ≡ self.old) × (volume.new ≡ volume.old) }
+        ensures ok { OnOk result (0 < length self.old.tail → self.new ≡ record self.old { batch = end_of self.old; tail = [] }) }
+        ensures flushed { OnOk result (0 < length self.old.tail → (c : Image) → V.may_leave volume.new c
+            → IsFlushed self.old.batch (written_tail self.old.tail) c × ComesByFlush self.old.batch (written_tail self.old.tail) (V.may_leave volume.old) c) }
+        ensures durable { OnOk result (IsDurable Area.Log (V.content volume.new) (V.may_leave volume.new)) }
+
+        // A crash at any moment of the call leaves the gate as it was, or the whole tail behind it.
+        ensures any_moment { LeavesOnly (V.moment volume.old) (V.moment volume.new) (V.left_since volume.old) (V.left_since volume.new)
+            (ComesByFlush self.old.batch (written_tail self.old.tail) (V.may_leave volume.old)) }
+
+        ensures cause { (fault : Faults) → result ≡ Err fault → (fault ≡ Fault.Volume Area.Log) × Rises (V.faults volume.old Area.Log) (V.faults volume.new Area.Log) }
+        ensures counts { (area : Areas) → V.faults volume.old area ≤ V.faults volume.new area }
+        ensures data_reads { V.data_reads volume.new ≡ V.data_reads volume.old }
+        ensures log_reads { V.log_reads volume.new ≡ V.log_reads volume.old }
+        ensures same { V.reference volume.new ≡ V.reference volume.old }
+    {
+        let records = self.buffer.len() - LENGTH_BYTES;
+        if records == 0 {
+            return Ok(());
+        }
+        close(&mut self.buffer);
+        if write_batch(volume, self.batch, &self.buffer).is_err() {
+            self.buffer.truncate(LENGTH_BYTES);
+            return Err(Fault::Volume { area: Area::Log });
+        }
+        self.batch += BATCH_HEADER + records as u64;
+        self.buffer.truncate(LENGTH_BYTES);
+        Ok(())
+    }
+}
