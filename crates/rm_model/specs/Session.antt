@@ -100,6 +100,10 @@ Run old (said ∷ lines) (told ∷ replies) new = (mid : State) × Step old said
 Run old [] (told ∷ replies) new = ⊥
 Run old (said ∷ lines) [] new = ⊥
 
--- a session over so many pages without rows, before its first transaction
+-- a session over these pages, before its first transaction, which gets the id next
+abbrev pub opened : List (List Slot) → ℕ → State
+opened pages next = record { core = record { pages = pages; next = next; active = false }; names = replicate 26 None }
+
+-- a session over so many pages without rows
 abbrev pub fresh : ℕ → State
-fresh pages = record { core = record { pages = replicate pages []; next = 1; active = false }; names = replicate 26 None }
+fresh pages = opened (replicate pages []) 1

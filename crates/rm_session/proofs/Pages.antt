@@ -2,6 +2,7 @@
 use Rattle.std.proofs.Common.{◌≡◌, ℕ, ◌+◌, ◌<◌, List, [], length, get_or, set, refl, sym, ap, ◌∙◌, arith, Bool, true, false, IsTrue, inl, inr}
 use Rattle.std.proofs.lemmas.Bool.{cases_lt, both_ways}
 use Rattle.std.proofs.lemmas.List.{length-map, map-set, get_or-map}
+use Rattle.rm_types.specs.declared.numbers.Lsn.{Lsn}
 use Rattle.rm_types.specs.declared.slots.Slot.{Slot}
 use Rattle.rm_types.specs.declared.slots.Slot.TheVariants.{Row}
 use Rattle.rm_types.specs.declared.slots.TheConstants.{CAPACITY, SLOT_ENTRY}
@@ -33,8 +34,8 @@ lacks_room_at pages number len page inside is has none test =
     ])
 
 -- a row set behind the directory of the first page with room is inserted
-pub insert_is : (pages : List PageValue) (page new : PageValue) (number slot : ℕ) (row : List ℕ) → IsFirstWithRoom (slots_of pages) (length row) number → slot ≡ length (get_or pages number page).slots → new ≡ record { lsn = record { 0 = 0 }; slots = set_slot (get_or pages number page).slots slot (Row row) } → Inserts (slots_of pages) row (reply.Inserted (record { page = number; slot = slot })) (slots_of (set pages number new))
-insert_is pages page new number slot row first behind made =
+pub insert_is : (pages : List PageValue) (page new : PageValue) (number slot : ℕ) (row : List ℕ) (lsn : Lsn) → IsFirstWithRoom (slots_of pages) (length row) number → slot ≡ length (get_or pages number page).slots → new ≡ record { lsn = lsn; slots = set_slot (get_or pages number page).slots slot (Row row) } → Inserts (slots_of pages) row (reply.Inserted (record { page = number; slot = slot })) (slots_of (set pages number new))
+insert_is pages page new number slot row lsn first behind made =
     let inside : number < length pages = omega (arith, first.in_file, length-slots_of pages) in
     let slots : page_at (slots_of pages) number ≡ (get_or pages number page).slots = page_at-slots_of pages number page inside in
     ((first, behind ∙ ap (λ (found : List Slot). length found) (sym slots)), slots_of-set pages number new ∙ rw (made, slots) refl)

@@ -7,12 +7,13 @@
 
 mod rows;
 
-ghost use Rattle.std.specs.Prelude.{◌≡◌, ◌+◌, ◌<◌, ◌≤◌, ◌^◌, length, IfOk, OnErr};
-ghost use Rattle.rm_model.specs.Session.{State, Step, names_after, fresh};
-ghost use Rattle.rm_session.specs.Answers.{slots_of, Draws};
+ghost use Rattle.std.specs.Prelude.{◌≡◌, ℕ, ◌+◌, ◌<◌, ◌≤◌, ◌^◌, length, IfOk, OnErr, MatchBool, false};
+ghost use Rattle.rm_types.specs.declared.rows.TheConstants.{MAX_ROW};
+ghost use Rattle.rm_model.specs.Session.{State, Step, IsFirstWithRoom, names_after, fresh, opened};
+ghost use Rattle.rm_session.specs.Answers.{slots_of, Draws, IsFull};
 
 use rm_page::Page;
-use rm_types::{Line, Names, NoMemory, Op, Reply, Rid, Row, TxnId};
+use rm_types::{Line, Lsn, Names, NoMemory, Op, Reply, Rid, Row, TxnId};
 use std::alloc::Global;
 use std::marker::Model;
 
@@ -20,7 +21,7 @@ use std::marker::Model;
 #[derive(Debug, Drop)]
 pub struct Session {
     pages: Vec<Page>,
-    next: u32,
+    next: u64,
     active: bool,
     names: Names,
 }
@@ -42,41 +43,74 @@ impl Session {
     pub fn new(alloc: Global, pages: u32) -> Result<Session, NoMemory>
         ensures { IfOk result (λ session. session ≡ fresh pages) }
     {
-        Ok(Session {
-            pages: rows::empty_pages(alloc, pages)?,
-            next: 1,
-            active: false,
-            names: Names::new(),
-        })
+        Ok(Session::over(rows::empty_pages(alloc, pages)?, 1))
     }
 
-    /// Does a line, and answers its reply.
+    /// A session over these pages, before its first transaction, which gets the id `next`.
+    pub fn over(pages: Vec<Page>, next: u64) -> Session
+        requires { length pages.items < 2 ^ 32 }
+        ensures { result ≡ opened (slots_of pages.items) next }
+    {
+        Session {
+            pages,
+            next,
+            active: false,
+            names: Names::new(),
+        }
+    }
+
+    /// Whether the session has a transaction.
+    pub fn is_active(&self) -> bool
+        ensures { result ≡ self.now.core.active }
+    {
+        self.active
+    }
+
+    /// The id of the next transaction.
+    pub fn next(&self) -> u64
+        ensures { result ≡ self.now.core.next }
+    {
+        self.next
+    }
+
+    /// Whether a page has room for a row of so many bytes.
+    pub fn has_place(&self, len: usize) -> bool
+        requires { len ≤ MAX_ROW }
+        ensures { MatchBool result ((page : ℕ) × IsFirstWithRoom self.now.core.pages len page) (IsFull self.now.core.pages len) }
+    {
+        match rows::first_with_room(&self.pages, len) {
+            Some(_) => true,
+            None => false,
+        }
+    }
+
+    /// Does a line, and answers its reply. A row that it puts gets `lsn` as its page's LSN.
     ///
     /// # Errors
     ///
     /// [`NoMemory`] leaves the session as it was.
-    pub fn turn(&mut self, line: &Line) -> Result<Reply, NoMemory>
-        requires { self.old.core.next + 1 < 2 ^ 32 }
+    pub fn turn(&mut self, line: &Line, lsn: Lsn) -> Result<Reply, NoMemory>
+        requires { self.old.core.active ≡ false → line.now ≡ Line.Begin → self.old.core.next < 2 ^ 32 }
         ensures step { IfOk result (λ reply. Step self.old line.now reply self.new) }
         ensures ids { self.new.core.next ≤ self.old.core.next + 1 }
         ensures err { OnErr result (self.new ≡ self.old) }
     {
         let op = line.op(&self.names)?;
-        let reply = self.answer(&op)?;
+        let reply = self.answer(&op, lsn)?;
         bind(&mut self.names, line, &reply);
         Ok(reply)
     }
 
     // Answers an operation. The names stay as they are.
-    fn answer(&mut self, op: &Op) -> Result<Reply, NoMemory>
-        requires { self.old.core.next + 1 < 2 ^ 32 }
+    fn answer(&mut self, op: &Op, lsn: Lsn) -> Result<Reply, NoMemory>
+        requires { self.old.core.active ≡ false → op.now ≡ Op.Begin → self.old.core.next < 2 ^ 32 }
         ensures core { IfOk result (λ reply. Draws self.old.core op.now reply self.new.core) }
         ensures names { self.new.names ≡ self.old.names }
         ensures err { OnErr result (self.new ≡ self.old) }
     {
         match op {
             Op::Begin => Ok(self.begin()),
-            Op::Insert(row) => self.insert(row),
+            Op::Insert(row) => self.insert(row, lsn),
             Op::Read(rid) => self.read(*rid),
             Op::Commit => Ok(self.commit()),
             Op::Unbound => Ok(Reply::Unbound),
@@ -84,20 +118,20 @@ impl Session {
     }
 
     fn begin(&mut self) -> Reply
-        requires { self.old.core.next + 1 < 2 ^ 32 }
+        requires { self.old.core.active ≡ false → self.old.core.next < 2 ^ 32 }
         ensures core { Draws self.old.core Op.Begin result self.new.core }
         ensures names { self.new.names ≡ self.old.names }
     {
         if self.active {
             return Reply::Skipped;
         }
-        let id = TxnId(self.next);
+        let id = TxnId(self.next as u32);
         self.next += 1;
         self.active = true;
         Reply::Began(id)
     }
 
-    fn insert(&mut self, row: &Row) -> Result<Reply, NoMemory>
+    fn insert(&mut self, row: &Row, lsn: Lsn) -> Result<Reply, NoMemory>
         ensures core { IfOk result (λ reply. Draws self.old.core (Op.Insert row.now) reply self.new.core) }
         ensures names { self.new.names ≡ self.old.names }
         ensures err { OnErr result (self.new ≡ self.old) }
@@ -105,7 +139,7 @@ impl Session {
         if !self.active {
             return Ok(Reply::Skipped);
         }
-        rows::insert(&mut self.pages, row)
+        rows::insert(&mut self.pages, row, lsn)
     }
 
     fn read(&self, rid: Rid) -> Result<Reply, NoMemory>

@@ -29,7 +29,7 @@ fn has_room(page: &Page, len: usize) -> bool
 }
 
 // The number of the first page that has room. The search reads no more of a page than its use.
-fn first_with_room(pages: &[Page], len: usize) -> Option<u32>
+pub fn first_with_room(pages: &[Page], len: usize) -> Option<u32>
     requires short { len ≤ MAX_ROW }
     requires numbered { length pages.now < 2 ^ 32 }
     ensures { MatchOption result (IsFull (slots_of pages.now) len) (λ page. IsFirstWithRoom (slots_of pages.now) len page) }
@@ -43,7 +43,7 @@ fn first_with_room(pages: &[Page], len: usize) -> Option<u32>
 }
 
 // Inserts the row behind the directory of the first page that has room. An error leaves the pages as they were.
-pub fn insert(pages: &mut [Page], row: &Row) -> Result<Reply, NoMemory>
+pub fn insert(pages: &mut [Page], row: &Row, lsn: Lsn) -> Result<Reply, NoMemory>
     requires { length pages.old < 2 ^ 32 }
     ensures ok { IfOk result (λ reply. Inserts (slots_of pages.old) row.now reply (slots_of pages.new)) }
     ensures err { OnErr result (pages.new ≡ pages.old) }
@@ -54,7 +54,7 @@ pub fn insert(pages: &mut [Page], row: &Row) -> Result<Reply, NoMemory>
     };
     let page = &mut pages[number as usize];
     let slot = page.slots();
-    page.set(slot, bytes, Lsn(0))?;
+    page.set(slot, bytes, lsn)?;
     Ok(Reply::Inserted(Rid { page: number, slot }))
 }
 

@@ -6,10 +6,10 @@ use std::test::Fail;
 
 // The reply to a line, as `Debug` shows it.
 fn told(alloc: Global, session: &mut Session, line: &Line) -> Result<String, Fail>
-    requires { session.old.core.next + 1 < 2 ^ 32 }
+    requires { session.old.core.next < 2 ^ 32 }
     ensures { session.new.core.next ≤ session.old.core.next + 1 }
 {
-    let reply = session.turn(line)?;
+    let reply = session.turn(line, Lsn(0))?;
     Ok(format!(in alloc; "{reply:?}")?)
 }
 

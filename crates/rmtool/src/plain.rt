@@ -10,7 +10,7 @@ use crate::writing::write_all;
 use rm_outside::{Failed, Sink};
 use rm_script::reply_text;
 use rm_session::Session;
-use rm_types::Line;
+use rm_types::{Line, Lsn};
 use std::alloc::Global;
 
 /// How many pages the rows of `plain` are put in.
@@ -62,7 +62,7 @@ fn do_lines<K: Sink>(
 {
     for line in lines {
         flush_if_long(text, out)?;
-        let reply = session.turn(line)?;
+        let reply = session.turn(line, Lsn(0))?;
         reply_text(&reply, text)?;
     }
     Ok(())
