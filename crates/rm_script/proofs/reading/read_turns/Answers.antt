@@ -1,4 +1,4 @@
-use Rattle.std.proofs.Common.{◌+◌, ◌<◌, ◌≡◌, [], length, arith, ap}
+use Rattle.std.proofs.Common.{◌+◌, ◌<◌, ◌≡◌, length, arith, ap}
 use Rattle.std.proofs.lemmas.Bool.Decides.{nat_tests}
 use Rattle.std.proofs.lemmas.List.{nil_from_length}
 use Rattle.rm_model.specs.Grammar.{lines_of}
