@@ -4,6 +4,8 @@ pub mod RunExamples
 pub mod Cuts
 pub mod LinesOf
 pub mod Readings
+pub mod Turns
+pub mod WrongTurns
 pub mod GrammarExamples
 pub mod TextLines
 pub mod TextExamples

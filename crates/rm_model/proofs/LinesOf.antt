@@ -31,7 +31,7 @@ one_more true byte lines n m some e = omega (arith, e)
 one_more false byte [] n m some e = absurd (omega (arith, some))
 one_more false byte (line ∷ lines) n m some e = omega (arith, e)
 
-some_line : (ends : Bool) (byte : ℕ) (lines : List (List ℕ)) → 0 < length (cond ends ([] ∷ lines) (onto_first byte lines))
+pub some_line : (ends : Bool) (byte : ℕ) (lines : List (List ℕ)) → 0 < length (cond ends ([] ∷ lines) (onto_first byte lines))
 some_line true byte lines = omega arith
 some_line false byte [] = omega arith
 some_line false byte (line ∷ lines) = omega arith

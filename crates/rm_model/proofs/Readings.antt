@@ -97,7 +97,7 @@ same_line line.Commit (line.Insert n s) text p q = absurd (apart _ _ (λ e. omeg
 same_line line.Commit (line.Read t) text p q = absurd (apart _ _ (λ e. omega (arith, e)) (sym p ∙ q.2))
 same_line line.Commit line.Commit text p q = refl
 
-same_lines : (texts : List (List ℕ)) (lines others : List Line) → AreLines lines texts → AreLines others texts → lines ≡ others
+pub same_lines : (texts : List (List ℕ)) (lines others : List Line) → AreLines lines texts → AreLines others texts → lines ≡ others
 same_lines [] [] [] p q = refl
 same_lines [] [] (b ∷ others) p q = absurd q
 same_lines [] (a ∷ lines) others p q = absurd p

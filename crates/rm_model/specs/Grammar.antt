@@ -1,4 +1,4 @@
--- The plain form of a script: which bytes spell which lines.
+-- The forms of a script, the plain one and that of one session: which bytes spell which lines.
 use Rattle.std.specs.Prelude.{◌≡◌, ℕ, ◌+◌, ◌^◌, ◌≤◌, ◌<◌, ◌==◌, if◌then◌else◌, List, [], ◌∷◌, ◌++◌, length, replicate, codes, decimal, ◌⊎◌}
 use Rattle.std.specs.List.{AllByRecursion, onto_first}
 use Rattle.rm_types.specs.declared.lines.Line.{Line}
@@ -74,6 +74,36 @@ pub record IsFirstWrong (number : ℕ) (bytes : List ℕ) : Type 0 where
   pub cut : lines_of bytes ≡ right ++ wrong ∷ rest
   pub spelled : AreLines before right
   pub is_wrong : IsWrong wrong
+  pub is_number : number ≡ length right + 1
+
+-- the lines of a script of one session: the session's number, its operations, and how they are run
+abbrev pub session_texts : List (List ℕ) → List (List ℕ)
+session_texts inner = codes "session 1" ∷ inner ++ codes "turns" ∷ codes "finish 200000" ∷ []
+
+-- the texts are such a script, and its operations are these lines
+abbrev pub IsSessionForm : List Line → List (List ℕ) → Type 0
+IsSessionForm lines texts = (inner : List (List ℕ)) × AreLines lines inner × (texts ≡ session_texts inner)
+
+-- the bytes are the form of `turns` of a script of these lines
+abbrev pub IsTurns : List Line → List ℕ → Type 0
+IsTurns lines bytes = IsSessionForm lines (lines_of bytes)
+
+-- some script in the form of `turns` begins with these texts
+abbrev pub BeginsTurns : List (List ℕ) → Type 0
+BeginsTurns texts = (lines : List Line) × (more : List (List ℕ)) × IsSessionForm lines (texts ++ more)
+
+-- behind the texts that are right the script ends and is not whole, or the next text makes it wrong
+abbrev pub GoesWrong : List (List ℕ) → List (List ℕ) → Type 0
+GoesWrong right [] = (lines : List Line) → IsSessionForm lines right → ⊥
+GoesWrong right (wrong ∷ rest) = BeginsTurns (right ++ wrong ∷ []) → ⊥
+
+-- of a script for `turns` the line with this number, from 1, is the first that is wrong or lacking
+pub record IsFirstWrongTurns (number : ℕ) (bytes : List ℕ) : Type 0 where
+  pub right : List (List ℕ)
+  pub rest : List (List ℕ)
+  pub cut : lines_of bytes ≡ right ++ rest
+  pub begins : BeginsTurns right
+  pub goes_wrong : GoesWrong right rest
   pub is_number : number ≡ length right + 1
 
 -- the script is as long as a script may be

@@ -1,4 +1,4 @@
--- How replies are written.
+-- How replies, and what is told beside them, are written.
 use Rattle.std.specs.Prelude.{ℕ, ◌+◌, ◌/◌, ◌%◌, nat_lt, if◌then◌else◌, List, [], ◌∷◌, ◌++◌, codes, decimal}
 use Rattle.std.specs.List.{flat_map}
 use Rattle.rm_types.specs.declared.numbers.Rid.{Rid}
@@ -41,3 +41,23 @@ text_of reply.Skipped = codes "skipped\n"
 -- the replies, each as its line
 abbrev pub texts_of : List Reply → List ℕ
 texts_of replies = flat_map text_of replies
+
+-- a reply as a line of `turns`: the session's number stands in front of it
+abbrev pub turn_line : ℕ → Reply → List ℕ
+turn_line session reply = decimal session ++ codes " " ++ text_of reply
+
+-- the replies of one session, each as its line
+abbrev pub turn_lines : ℕ → List Reply → List ℕ
+turn_lines session replies = flat_map (turn_line session) replies
+
+-- a transaction that its session left open
+abbrev pub unfinished_line : ℕ → ℕ → List ℕ
+unfinished_line session txn = decimal session ++ codes " unfinished " ++ decimal txn ++ codes "\n"
+
+-- a volume that was created, with so many pages
+abbrev pub created_line : ℕ → List ℕ
+created_line pages = codes "created " ++ decimal pages ++ codes "\n"
+
+-- what a restart did: the records that it read, applied and undid
+abbrev pub restart_line : ℕ → ℕ → ℕ → List ℕ
+restart_line records applied undone = codes "records " ++ decimal records ++ codes " applied " ++ decimal applied ++ codes " undone " ++ decimal undone ++ codes "\n"

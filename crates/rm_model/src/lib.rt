@@ -1,11 +1,11 @@
 //! The definitions that the contracts above are written in: what a page stands for, the one-thread
-//! object and a session's run over it, the plain form of a script, and how replies are written
+//! object and a session's run over it, the forms of a script, and how replies are written
 //! (docs/DEFINITIONS.md).
 //!
 //! The crate has no code. Its functions are laws: each ensures something of the definitions alone.
 #![tactic(auto)]
 
-ghost use Rattle.rm_model.specs.Laws.{SetsOneSlot, EveryScriptRuns, RunsAreOne, ReadingsAreOne, TextsAreLines};
+ghost use Rattle.rm_model.specs.Laws.{SetsOneSlot, EveryScriptRuns, RunsAreOne, ReadingsAreOne, TurnsReadingsAreOne, FirstWrongTurnsIsOne, TextsAreLines};
 
 /// Setting a slot of a page changes that slot and no other, and adds slots only up to it.
 pub fn set_changes_one_slot()
@@ -27,7 +27,17 @@ pub fn bytes_spell_one_script()
     ensures { ReadingsAreOne }
 {}
 
-/// A reply whose numbers are in their ranges is written with one LF, at its end.
-pub fn each_reply_is_one_line()
+/// No bytes are the form of `turns` of two scripts.
+pub fn turns_spell_one_script()
+    ensures { TurnsReadingsAreOne }
+{}
+
+/// A script in the form of `turns` has no first wrong line, and no bytes have two.
+pub fn one_line_is_the_first_wrong()
+    ensures { FirstWrongTurnsIsOne }
+{}
+
+/// A reply, and each other text, is written with one LF, at its end, where its numbers are in their ranges.
+pub fn each_text_is_one_line()
     ensures { TextsAreLines }
 {}

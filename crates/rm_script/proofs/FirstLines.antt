@@ -1,10 +1,11 @@
 -- The first line of some bytes, and the lines that were read so far.
-use Rattle.std.proofs.Common.{◌≡◌, ℕ, suc, ◌+◌, ◌<◌, List, [], ◌∷◌, ◌++◌, length, Option, Some, None, IfSome, IfNone, unwrap_or, refl, sym, ap, ◌∙◌, arith, append_assoc}
+use Rattle.std.proofs.Common.{◌≡◌, ℕ, suc, ◌+◌, ◌<◌, ◌==◌, List, [], ◌∷◌, ◌++◌, length, Option, Some, None, IfSome, IfNone, unwrap_or, refl, sym, ap, ◌∙◌, arith, append_assoc}
 use Rattle.std.specs.Borrow.{Bor}
 use Rattle.rm_types.specs.declared.lines.Line.{Line}
-use Rattle.rm_model.specs.Grammar.{IsLine, AreLines, IsWrong, IsFirstWrong, lines_of}
-use Rattle.rm_model.proofs.LinesOf.{lines_of-cut, lines_of-last}
+use Rattle.rm_model.specs.Grammar.{IsLine, AreLines, IsFirstWrong, lines_of}
+use Rattle.rm_model.proofs.LinesOf.{lines_of-cut, lines_of-last, some_line}
 use Rattle.rm_script.specs.Cuts.{IsCut, Lacks}
+use Rattle.rm_script.specs.Reading.{HasRead, StopsAt}
 
 pub first_of_cut : (bytes front back : List ℕ) → IsCut 10 bytes front back → lines_of bytes ≡ front ∷ lines_of back
 first_of_cut bytes front back cut = ap lines_of cut.whole ∙ lines_of-cut front back cut.is_first
@@ -37,22 +38,32 @@ length-AreLines [] (text ∷ right) h = absurd h
 length-AreLines (a ∷ lines) [] h = absurd h
 length-AreLines (a ∷ lines) (text ∷ right) h = ap suc (length-AreLines lines right h.1)
 
--- the lines so far, and what is left of the bytes
-abbrev pub HasRead : List ℕ → List Line → List ℕ → Type 0
-HasRead bytes lines rest = (right : List (List ℕ)) × AreLines lines right × (lines_of bytes ≡ right ++ lines_of rest)
-
 pub HasRead-more : (bytes : List ℕ) (lines more : List Line) (rest text after : List ℕ) (said : Line) → HasRead bytes lines rest → lines_of rest ≡ text ∷ lines_of after → IsLine said text → more ≡ lines ++ said ∷ [] → HasRead bytes more after
 HasRead-more bytes lines more rest text after said h first l e =
     rw e (h.0 ++ text ∷ [], AreLines-push lines h.0 said text h.1 l, h.2 ∙ ap (λ ls. h.0 ++ ls) first ∙ sym (append_assoc h.0 (text ∷ []) (lines_of after)))
 
-pub first_wrong : (bytes : List ℕ) (lines : List Line) (rest text after : List ℕ) (number : ℕ) → HasRead bytes lines rest → lines_of rest ≡ text ∷ lines_of after → IsWrong text → number ≡ length lines + 1 → IsFirstWrong number bytes
-first_wrong bytes lines rest text after number h first wrong e = record {
+-- bytes have a line
+lines_of_some : (bytes : List ℕ) → 0 < length bytes → 0 < length (lines_of bytes)
+lines_of_some [] some = absurd (omega (arith, some))
+lines_of_some (byte ∷ bytes) some = some_line (byte == 10) byte (lines_of bytes)
+
+-- so has what is not empty
+pub lines_are_left : (bytes : List ℕ) → 0 < length bytes → lines_of bytes ≡ [] → ⊥
+lines_are_left bytes some none = omega (arith, lines_of_some bytes some, ap length none)
+
+wrong_next : (bytes : List ℕ) (lines : List Line) (right left : List (List ℕ)) (number : ℕ) → AreLines lines right → lines_of bytes ≡ right ++ left → StopsAt left → (left ≡ [] → ⊥) → number ≡ length lines + 1 → IsFirstWrong number bytes
+wrong_next bytes lines right [] number h cut stops some e = absurd (some refl)
+wrong_next bytes lines right (text ∷ left) number h cut stops some e = record {
   before = lines;
-  right = h.0;
+  right = right;
   wrong = text;
-  rest = lines_of after;
-  cut = h.2 ∙ ap (λ ls. h.0 ++ ls) first;
-  spelled = h.1;
-  is_wrong = wrong;
-  is_number = e ∙ ap (λ n. n + 1) (length-AreLines lines h.0 h.1);
+  rest = left;
+  cut = cut;
+  spelled = h;
+  is_wrong = stops text left refl;
+  is_number = e ∙ ap (λ n. n + 1) (length-AreLines lines right h);
 }
+
+-- where lines are left in which no line of a script comes next, that one is wrong
+pub first_wrong : (bytes : List ℕ) (lines : List Line) (rest : List ℕ) (number : ℕ) → HasRead bytes lines rest → StopsAt (lines_of rest) → 0 < length rest → number ≡ length lines + 1 → IsFirstWrong number bytes
+first_wrong bytes lines rest number h stops some e = wrong_next bytes lines h.0 (lines_of rest) number h.1 h.2 stops (lines_are_left rest some) e

@@ -1,4 +1,5 @@
 pub mod FirstLines
+pub mod FirstTurns
 pub mod HexRows
 pub mod Numbers
 pub mod RowDigits

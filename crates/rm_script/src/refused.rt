@@ -6,14 +6,22 @@ ghost use Rattle.rm_script.specs.declared.refused.ScriptRefused.TheVariants as r
 use rm_types::Which;
 use std::alloc::{AllocError, AllocFailed};
 
-/// Why bytes are no script in the plain form.
+/// Why bytes are no script in the form that was wanted.
 #[derive(Clone, Copy, Debug, PartialEq, Eq)]
 pub enum ScriptRefused {
-    /// That line, from 1, is the first wrong one.
+    /// That line, from 1, is the first that is wrong, or that is lacking where the script ends too early.
     Bad { line: u64 },
     /// The script has too much of that.
     Limit { which: Which },
     NoMemory,
+}
+
+impl From<Which> for ScriptRefused {
+    ghost from_gives = { λ which e. e ≡ refused.Limit which };
+
+    fn from(which: Which) -> ScriptRefused {
+        ScriptRefused::Limit { which }
+    }
 }
 
 impl From<AllocError> for ScriptRefused {

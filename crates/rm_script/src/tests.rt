@@ -74,6 +74,52 @@ const BAD: [(&[u8], u64); 46] = [
     (b"begin\nread $a\nupdate 0.0 61\ncommit", 3),
 ];
 
+/// Scripts for `turns`, each with how many lines its session has.
+const GOOD_TURNS: [(&[u8], usize); 4] = [
+    (b"session 1\nturns\nfinish 200000", 0),
+    (b"session 1\nturns\nfinish 200000\n", 0),
+    (b"session 1\nbegin\nturns\nfinish 200000", 1),
+    (
+        b"session 1\nbegin\ninsert $b 3*0a\nread $b\nread 1.0\ncommit\nturns\nfinish 200000\n",
+        5,
+    ),
+];
+
+/// Scripts that are wrong for `turns`, each with the number of its first wrong line.
+const BAD_TURNS: [(&[u8], u64); 31] = [
+    (b"", 1),
+    (b"\n", 1),
+    (b"begin", 1),
+    (b"turns\nfinish 200000", 1),
+    (b"session 2\nturns\nfinish 200000", 1),
+    (b"session 01\nturns\nfinish 200000", 1),
+    (b"session  1\nturns\nfinish 200000", 1),
+    (b"session 1 \nturns\nfinish 200000", 1),
+    (b"session\nturns\nfinish 200000", 1),
+    (b"Session 1\nturns\nfinish 200000", 1),
+    (b"session 1", 2),
+    (b"session 1\n", 2),
+    (b"session 1\n\nturns\nfinish 200000", 2),
+    (b"session 1\nsession 1\nturns\nfinish 200000", 2),
+    (b"session 1\nfinish 200000", 2),
+    (b"session 1\nturn\nfinish 200000", 2),
+    (b"session 1\nturns \nfinish 200000", 2),
+    (b"session 1\nbegin\n", 3),
+    (b"session 1\nbegin\ninse", 3),
+    (b"session 1\nbegin\nread $A\nturns\nfinish 200000", 3),
+    (b"session 1\nbegin\nfinish 200000", 3),
+    (b"session 1\nturns", 3),
+    (b"session 1\nturns\n", 3),
+    (b"session 1\nturns\n\nfinish 200000", 3),
+    (b"session 1\nturns\nfinish 199999", 3),
+    (b"session 1\nturns\nfinish 200000 ", 3),
+    (b"session 1\nturns\nbegin\nfinish 200000", 3),
+    (b"session 1\nbegin\nturns\nturns\nfinish 200000", 4),
+    (b"session 1\nturns\nfinish 200000\n\n", 4),
+    (b"session 1\nturns\nfinish 200000\nfinish 200000", 4),
+    (b"session 1\nbegin\nturns\nfinish 200000\ncommit\n", 5),
+];
+
 #[test]
 fn good_scripts_are_read(rt: HostRuntime) -> Result<(), Fail> {
     for text in GOOD {
@@ -136,5 +182,36 @@ fn bytes_are_counted_before_lines(rt: HostRuntime) -> Result<(), Fail> {
     );
     let refused = read_plain(rt.alloc(), &lines[1..]).err();
     assert_eq!(rt; refused, Some(ScriptRefused::Bad { line: 1 }));
+    Ok(())
+}
+
+#[test]
+fn good_scripts_for_turns_are_read(rt: HostRuntime) -> Result<(), Fail> {
+    for (text, count) in GOOD_TURNS {
+        let script = read_turns(rt.alloc(), text)?;
+        assert_eq!(rt; script.lines.len(), count, "{text:?}");
+    }
+    Ok(())
+}
+
+#[test]
+fn the_first_wrong_line_of_turns_is_named(rt: HostRuntime) -> Result<(), Fail> {
+    for (text, line) in BAD_TURNS {
+        let refused = read_turns(rt.alloc(), text).err();
+        assert_eq!(rt; refused, Some(ScriptRefused::Bad { line }), "{text:?}");
+    }
+    Ok(())
+}
+
+#[test]
+fn limits_of_turns_are_tested_first(rt: HostRuntime) -> Result<(), Fail> {
+    let lines = vec![in rt.alloc(); b'\n'; MAX_LINES + 1]?;
+    let refused = read_turns(rt.alloc(), &lines).err();
+    assert_eq!(rt;
+        refused,
+        Some(ScriptRefused::Limit {
+            which: Which::Lines
+        })
+    );
     Ok(())
 }

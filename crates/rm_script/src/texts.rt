@@ -1,7 +1,7 @@
-//! How replies are written.
+//! How replies, and what is told beside them, are written.
 
 ghost use Rattle.std.specs.Prelude.{◌≡◌, ◌≤◌, ◌++◌, codes, decimal, length, take, OnOk, OnErr, vec_len};
-ghost use Rattle.rm_model.specs.Texts.{hex, place, shown, text_of};
+ghost use Rattle.rm_model.specs.Texts.{created_line, hex, place, restart_line, shown, text_of, turn_line, unfinished_line};
 
 use itoa::Buffer;
 use rm_types::{MAX_ROW, NoMemory, Reply, Rid, TxnId};
@@ -13,6 +13,65 @@ pub fn reply_text(reply: &Reply, out: &mut Vec<u8>) -> Result<(), NoMemory>
 {
     let start = out.len();
     let written = append_reply(reply, out);
+    whole_or_nothing(written, start, out)
+}
+
+/// Appends a reply's line of `turns`, with the session's number in front. `NoMemory` leaves `out` as it was.
+pub fn turn_text(session: u8, reply: &Reply, out: &mut Vec<u8>) -> Result<(), NoMemory>
+    ensures ok { OnOk result (out.new.items ≡ out.old.items ++ turn_line session reply.now) }
+    ensures err { OnErr result (out.new.items ≡ out.old.items) }
+{
+    let start = out.len();
+    let written = append_turn(session, reply, out);
+    whole_or_nothing(written, start, out)
+}
+
+/// Appends the line of a transaction that its session left open. `NoMemory` leaves `out` as it was.
+pub fn unfinished_text(session: u8, txn: TxnId, out: &mut Vec<u8>) -> Result<(), NoMemory>
+    ensures ok { OnOk result (out.new.items ≡ out.old.items ++ unfinished_line session txn.0) }
+    ensures err { OnErr result (out.new.items ≡ out.old.items) }
+{
+    let start = out.len();
+    let written = append_unfinished(session, txn, out);
+    whole_or_nothing(written, start, out)
+}
+
+/// Appends the line of a volume that was created, with so many pages. `NoMemory` leaves `out` as it was.
+pub fn created_text(pages: u32, out: &mut Vec<u8>) -> Result<(), NoMemory>
+    ensures ok { OnOk result (out.new.items ≡ out.old.items ++ created_line pages) }
+    ensures err { OnErr result (out.new.items ≡ out.old.items) }
+{
+    let start = out.len();
+    let written = append_created(pages, out);
+    whole_or_nothing(written, start, out)
+}
+
+/// Appends the line of a restart: how many log records it read, applied and undid. `NoMemory` leaves `out`
+/// as it was.
+pub fn restart_text(
+    records: u64,
+    applied: u64,
+    undone: u64,
+    out: &mut Vec<u8>,
+) -> Result<(), NoMemory>
+    ensures ok { OnOk result (out.new.items ≡ out.old.items ++ restart_line records applied undone) }
+    ensures err { OnErr result (out.new.items ≡ out.old.items) }
+{
+    let start = out.len();
+    let written = append_restart(records, applied, undone, out);
+    whole_or_nothing(written, start, out)
+}
+
+// Where a text was not written whole, takes back what stands of it behind the first `start` bytes.
+fn whole_or_nothing(
+    written: Result<(), NoMemory>,
+    start: usize,
+    out: &mut Vec<u8>,
+) -> Result<(), NoMemory>
+    ensures same { result ≡ written }
+    ensures ok { OnOk written (out.new.items ≡ out.old.items) }
+    ensures err { OnErr written (out.new.items ≡ take start out.old.items) }
+{
     if written.is_err() {
         out.truncate(start);
     }
@@ -38,12 +97,61 @@ fn append_reply(reply: &Reply, out: &mut Vec<u8>) -> Result<(), NoMemory>
     Ok(())
 }
 
+fn append_turn(session: u8, reply: &Reply, out: &mut Vec<u8>) -> Result<(), NoMemory>
+    ensures ok { OnOk result (out.new.items ≡ out.old.items ++ turn_line session reply.now) }
+    ensures front { take (vec_len out.old) out.new.items ≡ out.old.items }
+{
+    append_number(u64::from(session), out)?;
+    out.push(b' ')?;
+    append_reply(reply, out)
+}
+
+fn append_unfinished(session: u8, txn: TxnId, out: &mut Vec<u8>) -> Result<(), NoMemory>
+    ensures ok { OnOk result (out.new.items ≡ out.old.items ++ unfinished_line session txn.0) }
+    ensures front { take (vec_len out.old) out.new.items ≡ out.old.items }
+{
+    append_number(u64::from(session), out)?;
+    out.extend_from_slice(b" unfinished ")?;
+    append_number(u64::from(txn.0), out)?;
+    out.push(b'\n')?;
+    Ok(())
+}
+
+fn append_created(pages: u32, out: &mut Vec<u8>) -> Result<(), NoMemory>
+    ensures ok { OnOk result (out.new.items ≡ out.old.items ++ created_line pages) }
+    ensures front { take (vec_len out.old) out.new.items ≡ out.old.items }
+{
+    out.extend_from_slice(b"created ")?;
+    append_number(u64::from(pages), out)?;
+    out.push(b'\n')?;
+    Ok(())
+}
+
+fn append_restart(
+    records: u64,
+    applied: u64,
+    undone: u64,
+    out: &mut Vec<u8>,
+) -> Result<(), NoMemory>
+    ensures ok { OnOk result (out.new.items ≡ out.old.items ++ restart_line records applied undone) }
+    ensures front { take (vec_len out.old) out.new.items ≡ out.old.items }
+{
+    out.extend_from_slice(b"records ")?;
+    append_number(records, out)?;
+    out.extend_from_slice(b" applied ")?;
+    append_number(applied, out)?;
+    out.extend_from_slice(b" undone ")?;
+    append_number(undone, out)?;
+    out.push(b'\n')?;
+    Ok(())
+}
+
 fn append_begin(id: TxnId, out: &mut Vec<u8>) -> Result<(), NoMemory>
     ensures ok { OnOk result (out.new.items ≡ out.old.items ++ (codes "begin " ++ decimal id.0 ++ codes "\n")) }
     ensures front { take (vec_len out.old) out.new.items ≡ out.old.items }
 {
     out.extend_from_slice(b"begin ")?;
-    append_number(id.0, out)?;
+    append_number(u64::from(id.0), out)?;
     out.push(b'\n')?;
     Ok(())
 }
@@ -53,14 +161,14 @@ fn append_inserted(rid: Rid, out: &mut Vec<u8>) -> Result<(), NoMemory>
     ensures front { take (vec_len out.old) out.new.items ≡ out.old.items }
 {
     out.extend_from_slice(b"inserted ")?;
-    append_number(rid.page, out)?;
+    append_number(u64::from(rid.page), out)?;
     out.push(b'.')?;
-    append_number(u32::from(rid.slot), out)?;
+    append_number(u64::from(rid.slot), out)?;
     out.push(b'\n')?;
     Ok(())
 }
 
-fn append_number(number: u32, out: &mut Vec<u8>) -> Result<(), NoMemory>
+fn append_number(number: u64, out: &mut Vec<u8>) -> Result<(), NoMemory>
     ensures ok { OnOk result (out.new.items ≡ out.old.items ++ decimal number) }
     ensures err { OnErr result (out.new.items ≡ out.old.items) }
 {
@@ -135,6 +243,20 @@ mod tests {
             reply_text(reply, &mut out)?;
             assert_eq!(rt; out.as_slice().strip_prefix(b"before\n"), Some(*line));
         }
+        Ok(())
+    }
+
+    #[test]
+    fn what_is_told_beside_replies_has_its_lines(rt: HostRuntime) -> Result<(), Fail> {
+        let mut out = Vec::from_slice(rt.alloc(), b"before\n")?;
+        turn_text(1, &Reply::Began(TxnId(3)), &mut out)?;
+        turn_text(255, &Reply::NoRow, &mut out)?;
+        unfinished_text(1, TxnId(4_294_967_295), &mut out)?;
+        created_text(16_384, &mut out)?;
+        restart_text(u64::MAX, 10, 0, &mut out)?;
+        let lines =
+            b"before\n1 begin 3\n255 norow\n1 unfinished 4294967295\ncreated 16384\nrecords 18446744073709551615 applied 10 undone 0\n";
+        assert_eq!(rt; out.as_slice(), lines.as_slice());
         Ok(())
     }
 }

@@ -1,5 +1,5 @@
 use Rattle.std.proofs.Common.{length}
-use Rattle.rm_script.proofs.FirstLines.{HasRead}
+use Rattle.rm_script.specs.Reading.{HasRead}
 use Rattle.rm_script.proofs.reading.read_lines.Given as goal
 
 abbrev pub invariant-loop-text : goal.invariant-loop-text
