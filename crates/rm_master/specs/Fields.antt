@@ -22,7 +22,7 @@ pub record KeepCheckpointRules (f : Fields) : Type 0 where
 pub record KeepCopyRules (f : Fields) : Type 0 where
   pub known : f.half ≤ LAST_HALF
   pub start_within : f.start ≤ MAX_LOG
-  pub copied_within : f.half ≢ 0 → f.copied ≤ f.pages
+  pub copied_within : f.copied ≤ f.pages
   pub some_copied : f.half ≢ 0 → 1 ≤ f.copied
   pub not_restoring : f.half ≡ 0 → f.restoring ≡ false
   pub no_start : f.half ≡ 0 → f.start ≡ 0

@@ -9,6 +9,7 @@
 mod calls;
 mod faults;
 mod fields;
+mod spelling;
 
 pub use calls::sync_areas;
 
