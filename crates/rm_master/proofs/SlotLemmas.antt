@@ -1,10 +1,12 @@
 -- Slots and the fields that they spell.
 use Rattle.std.proofs.Common.{◌≡◌, ℕ, zero, suc, ◌+◌, ◌^◌, ◌<◌, ◌≤◌, Bool, true, false, nat_eq, List, [], ◌∷◌, ◌++◌, length, get_or, take, drop, refl, sym, ◌∙◌, ap, arith}
 use Rattle.std.proofs.Math.Seq.{drop-cons}
+use Rattle.std.proofs.lemmas.List.{ext_get_or}
 use Rattle.std.proofs.lemmas.Nat.{be_bytes_2, be_bytes_4, be_bytes_8, from_be_bytes-to_be_bytes_2, from_be_bytes-to_be_bytes_4, from_be_bytes-to_be_bytes_8}
 use Rattle.std.specs.Int.{w16, w32, w64, to_be_bytes, from_be_bytes}
+use Rattle.rm_outside.specs.Images.{Bytes, Shows}
 use Rattle.rm_master.specs.declared.fields.Fields.{Fields}
-use Rattle.rm_master.specs.Fields.{IsFields, flag_byte, slot_bytes}
+use Rattle.rm_master.specs.Fields.{IsFields, AreInRange, flag_byte, slot_bytes}
 
 -- so many elements from that index on
 abbrev pub cells : ℕ → ℕ → List ℕ → List ℕ
@@ -82,15 +84,6 @@ spelled_back bs l small flag =
     parts ∙ ap (λ (x : ℕ). cells 23 0 bs ++ x ∷ cells 12 24 bs) (flag_back (get_or bs 23 0) flag) in
     sym (flagged ∙ whole)
 
--- numbers of fields fit their types
-pub record AreInRange (f : Fields) : Type 0 where
-  pub version : f.version < 2 ^ 16
-  pub pages : f.pages < 2 ^ 32
-  pub batch : f.batch < 2 ^ 64
-  pub checkpoint : f.checkpoint < 2 ^ 64
-  pub start : f.start < 2 ^ 64
-  pub copied : f.copied < 2 ^ 32
-
 -- a spelling spells its fields
 spelled_again : (f : Fields) → AreInRange f → fields_in (slot_bytes f) ≡ f
 unfolding slot_bytes
@@ -123,7 +116,17 @@ IsFields-in_range f rules = record {
   copied = omega (arith, rules.copy.copied_within, rules.file.few_pages);
 }
 
+-- lists of one length that stand at one place are one
+pub one_list : (area : Bytes) (at : ℕ) (xs ys : List ℕ) → length xs ≡ length ys → Shows area at xs → Shows area at ys → xs ≡ ys
+one_list area at xs ys same first second =
+    ext_get_or 0 xs ys same (λ k below. sym (first.each k below) ∙ second.each k (omega arith))
+
 -- one spelling is of one list of fields
-pub one_spelling : (f g : Fields) → IsFields f → IsFields g → slot_bytes f ≡ slot_bytes g → f ≡ g
-one_spelling f g f_rules g_rules same =
-    sym (spelled_again f (IsFields-in_range f f_rules)) ∙ ap fields_in same ∙ spelled_again g (IsFields-in_range g g_rules)
+pub one_spelling : (f g : Fields) → AreInRange f → AreInRange g → slot_bytes f ≡ slot_bytes g → f ≡ g
+one_spelling f g f_fit g_fit same = sym (spelled_again f f_fit) ∙ ap fields_in same ∙ spelled_again g g_fit
+
+-- Shows of two spellings at one place
+pub one_shown : (area : Bytes) (at : ℕ) (f g : Fields) → IsFields f → IsFields g → Shows area at (slot_bytes f) → Shows area at (slot_bytes g) → f ≡ g
+one_shown area at f g f_rules g_rules f_shown g_shown =
+    one_spelling f g (IsFields-in_range f f_rules) (IsFields-in_range g g_rules) (one_list area at (slot_bytes f) (slot_bytes g) (length-slot_bytes f ∙ sym (length-slot_bytes g)) f_shown g_shown)
+

@@ -1,5 +1,5 @@
 -- The fields of a volume's master: their rules, and the bytes that spell them.
-use Rattle.std.specs.Prelude.{◌≡◌, ◌≢◌, ℕ, ◌+◌, ◌≤◌, Bool, true, false, List, [], ◌∷◌, ◌++◌}
+use Rattle.std.specs.Prelude.{◌≡◌, ◌≢◌, ℕ, ◌+◌, ◌^◌, ◌<◌, ◌≤◌, Bool, true, false, List, [], ◌∷◌, ◌++◌}
 use Rattle.std.specs.Int.{w16, w32, w64, to_be_bytes}
 use Rattle.rm_types.specs.declared.numbers.TheConstants.{MAX_PAGES, MAX_LOG}
 use Rattle.rm_master.specs.declared.fields.TheConstants.{VERSION, FIRST_RECORD, LAST_HALF}
@@ -33,6 +33,15 @@ pub record IsFields (f : Fields) : Type 0 where
   pub file : KeepFileRules f
   pub checkpoint : KeepCheckpointRules f
   pub copy : KeepCopyRules f
+
+-- the numbers fit their types
+pub record AreInRange (f : Fields) : Type 0 where
+  pub version : f.version < 2 ^ 16
+  pub pages : f.pages < 2 ^ 32
+  pub batch : f.batch < 2 ^ 64
+  pub checkpoint : f.checkpoint < 2 ^ 64
+  pub start : f.start < 2 ^ 64
+  pub copied : f.copied < 2 ^ 32
 
 -- the byte of a flag
 abbrev pub flag_byte : Bool → ℕ

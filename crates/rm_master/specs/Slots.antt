@@ -26,6 +26,12 @@ pub record HasFields (area : Bytes) (fields : Fields) : Type 0 where
   pub rules : IsFields fields
   pub slot : Shows area (slot_at (current area)) (slot_bytes fields)
 
+-- the volume is made, and its current slot, at this place, has no fields
+pub record IsDamagedAt (area : Bytes) (at : ℕ) : Type 0 where
+  pub made : area MADE_AT ≡ MADE
+  pub place : at ≡ slot_at (current area)
+  pub none : (fields : Fields) → IsFields fields → Shows area at (slot_bytes fields) → ⊥
+
 -- the volume is not made
 abbrev pub IsUnmade : Image → Type 0
 IsUnmade c = c Master MADE_AT ≢ MADE

@@ -2,10 +2,11 @@
 
 ghost use Rattle.std.specs.Prelude.{◌≡◌, ℕ, ◌≤◌, IsTrue, length, OnOk, OnErr, IfErr};
 ghost use Rattle.rm_types.specs.declared.areas.Area.{Area};
+ghost use Rattle.rm_outside.specs.Faults.{Rises};
 ghost use Rattle.rm_outside.specs.Areas.{CanReach};
 ghost use Rattle.rm_outside.specs.Images.{Image, Shows, Torn};
 ghost use Rattle.rm_outside.specs.Moments.{AddsNone, Follows, IsDurable, LeavesOnly};
-ghost use Rattle.rm_master.specs.Faults.{IsVolumeFault};
+ghost use Rattle.rm_master.specs.Faults.{IsVolumeFault, IfVolume, IfDamaged};
 ghost use Rattle.rm_master.specs.Steps.{After};
 
 use rm_outside::Volume;
@@ -19,7 +20,8 @@ pub fn read_master<V: Volume>(volume: &mut V, at: u64, into: &mut [u8]) -> Resul
     ensures crash { AddsNone (V.may_leave volume.old) (V.may_leave volume.new) }
     ensures any_moment { LeavesOnly (V.moment volume.old) (V.moment volume.new) (V.left_since volume.old) (V.left_since volume.new) (V.may_leave volume.old) }
     ensures counts { (other : Area) → V.faults volume.old other ≤ V.faults volume.new other }
-    ensures cause { IfErr result (IsVolumeFault (V.faults volume.old) (V.faults volume.new)) }
+    ensures cause { IfErr result (λ fault. IfVolume fault (λ area. (area ≡ Area.Master) × Rises (V.faults volume.old area) (V.faults volume.new area))) }
+    ensures undamaged { IfErr result (λ fault. IfDamaged fault (λ _ _. ⊥)) }
     ensures blocks { V.data_reads volume.new ≡ V.data_reads volume.old }
     ensures log_bytes { V.log_reads volume.new ≡ V.log_reads volume.old }
     ensures same { V.reference volume.new ≡ V.reference volume.old }

@@ -1,7 +1,7 @@
 //! The bytes of a slot.
 
-ghost use Rattle.std.specs.Prelude.{◌≡◌, IfOk, IfErr, IfSome, IfNone};
-ghost use Rattle.rm_master.specs.Fields.{IsFields, slot_bytes};
+ghost use Rattle.std.specs.Prelude.{◌≡◌, IfSome, IfNone};
+ghost use Rattle.rm_master.specs.Fields.{AreInRange, slot_bytes};
 ghost use Rattle.rm_master.specs.declared.fields.Fields.{Fields as the_fields};
 
 use crate::fields::{Fields, SLOT_BYTES};
@@ -26,6 +26,7 @@ pub fn spelling(fields: &Fields) -> [u8; SLOT_BYTES]
 /// The fields that the bytes spell, whether or not they keep the rules.
 pub fn spelled(bytes: &[u8; SLOT_BYTES]) -> Option<Fields>
     ensures some { IfSome result (λ fields. bytes.now ≡ slot_bytes fields) }
+    ensures in_range { IfSome result AreInRange }
     ensures none { IfNone result ((fields : the_fields) → bytes.now ≡ slot_bytes fields → ⊥) }
 {
     let [v0, v1, p0, p1, p2, p3, b0, b1, b2, b3, b4, b5, b6, b7, k0, k1, k2, k3, k4, k5, k6, k7, half, restoring, s0, s1, s2, s3, s4, s5, s6, s7, c0, c1, c2, c3] = *bytes;

@@ -1,0 +1,62 @@
+//! The master of a volume, read and written.
+
+ghost use Rattle.std.specs.Prelude.{◌<◌};
+
+use crate::calls;
+use crate::faults::MasterFault;
+use crate::fields::{Fields, MADE, MADE_AT};
+use crate::slots::read_slot;
+use rm_outside::Volume;
+
+/// The master of a volume that is made.
+#[derive(Debug, Drop)]
+pub struct Master {
+    /// Its fields.
+    pub fields: Fields,
+    /// The number of the current slot, 0 or 1.
+    pub slot: u8,
+    pub ghost in_range: { slot < 2 },
+}
+
+impl Master {
+    ghost use Rattle.std.specs.Prelude.{◌≡◌, ◌≢◌, ℕ, ◌≤◌, IsTrue, IfOk, IfErr};
+    ghost use Rattle.rm_types.specs.declared.areas.Area.{Area};
+    ghost use Rattle.rm_types.specs.declared.areas.Area.TheVariants.{Master as master_area};
+    ghost use Rattle.rm_outside.specs.Faults.{Rises};
+    ghost use Rattle.rm_outside.specs.Moments.{AddsNone, LeavesOnly};
+    ghost use Rattle.rm_master.specs.Faults.{IfVolume, IfDamaged, IfReadFault, OnNotMade};
+    ghost use Rattle.rm_master.specs.Fields.{IsFields};
+    ghost use Rattle.rm_master.specs.Slots.{Stands, IsDamagedAt};
+
+    /// Reads the master.
+    ///
+    /// # Errors
+    ///
+    /// [`MasterFault::NotMade`] exactly where the made byte is not 1. [`rm_types::Fault::Damaged`] where
+    /// the current slot has no fields that keep the rules, with the place of that slot.
+    /// [`rm_types::Fault::Volume`] where the area Master failed.
+    pub fn read<V: Volume>(volume: &mut V) -> Result<Master, MasterFault>
+        ensures fields { IfOk result (λ master. IsFields master.fields) }
+        ensures stands { IfOk result (λ master. IsTrue V.tells → Stands master.slot master.fields (V.content volume.old master_area)) }
+        ensures not_made { IfErr result (λ error. OnNotMade error (IsTrue V.tells → V.content volume.old master_area MADE_AT ≢ MADE)) }
+        ensures damaged { IfErr result (λ error. IfReadFault error (λ fault. IfDamaged fault (λ area at. (area ≡ master_area) × (IsTrue V.tells → IsDamagedAt (V.content volume.old master_area) at)))) }
+        ensures cause { IfErr result (λ error. IfReadFault error (λ fault. IfVolume fault (λ area. (area ≡ master_area) × Rises (V.faults volume.old area) (V.faults volume.new area)))) }
+        ensures content { V.content volume.new ≡ V.content volume.old }
+        ensures crash { AddsNone (V.may_leave volume.old) (V.may_leave volume.new) }
+        ensures any_moment { LeavesOnly (V.moment volume.old) (V.moment volume.new) (V.left_since volume.old) (V.left_since volume.new) (V.may_leave volume.old) }
+        ensures counts { (other : Area) → V.faults volume.old other ≤ V.faults volume.new other }
+        ensures blocks { V.data_reads volume.new ≡ V.data_reads volume.old }
+        ensures log_bytes { V.log_reads volume.new ≡ V.log_reads volume.old }
+        ensures same { V.reference volume.new ≡ V.reference volume.old }
+    {
+        let mut head = [0u8; 2];
+        calls::read_master(volume, MADE_AT, &mut head)?;
+        let [made, parity] = head;
+        if made != MADE {
+            return Err(MasterFault::NotMade);
+        }
+        let slot = parity % 2;
+        let fields = read_slot(volume, slot)?;
+        Ok(Master { fields, slot })
+    }
+}
