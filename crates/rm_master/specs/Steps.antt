@@ -3,6 +3,7 @@ use Rattle.std.specs.Prelude.{◌≡◌, ◌≢◌, ℕ}
 use Rattle.rm_types.specs.declared.areas.Area.{Area}
 use Rattle.rm_types.specs.declared.areas.Area.TheVariants.{Master}
 use Rattle.rm_outside.specs.Images.{Image}
+use Rattle.rm_outside.specs.Moments.{AddsNone}
 
 -- an image that comes by one step from one that might have been left
 abbrev pub After : (Image → Image → Type 0) → (Image → Type 0) → Image → Type 0
@@ -20,3 +21,8 @@ pub record KeepsMaster (old new : Image) : Type 0 where
 pub record KeepsMadeByte (old new : Image) : Type 0 where
   pub others : (other : Area) → other ≢ Master → new other ≡ old other
   pub made : new Master 0 ≡ old Master 0
+
+-- the content stays, and no image is added
+pub record IsUntouched (content new_content : Image) (old new : Image → Type 0) : Type 0 where
+  pub content_stays : new_content ≡ content
+  pub no_image : AddsNone old new

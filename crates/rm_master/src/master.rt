@@ -3,10 +3,12 @@
 ghost use Rattle.std.specs.Prelude.{◌<◌};
 
 use crate::calls;
-use crate::faults::MasterFault;
+use crate::creation::make;
+use crate::faults::{CreateFault, MasterFault};
 use crate::fields::{Fields, MADE, MADE_AT};
 use crate::slots::read_slot;
 use rm_outside::Volume;
+use rm_types::MAX_PAGES;
 
 /// The master of a volume that is made.
 #[derive(Debug, Drop)]
@@ -19,14 +21,17 @@ pub struct Master {
 }
 
 impl Master {
-    ghost use Rattle.std.specs.Prelude.{◌≡◌, ◌≢◌, ℕ, ◌≤◌, IsTrue, IfOk, IfErr};
+    ghost use Rattle.std.specs.Prelude.{◌≡◌, ◌≢◌, ℕ, ◌≤◌, ◌⊎◌, IsTrue, IsErr, IfOk, IfErr, OnOk};
     ghost use Rattle.rm_types.specs.declared.areas.Area.{Area};
     ghost use Rattle.rm_types.specs.declared.areas.Area.TheVariants.{Master as master_area};
     ghost use Rattle.rm_outside.specs.Faults.{Rises};
+    ghost use Rattle.rm_outside.specs.Images.{Image};
     ghost use Rattle.rm_outside.specs.Moments.{AddsNone, LeavesOnly};
-    ghost use Rattle.rm_master.specs.Faults.{IfVolume, IfDamaged, IfReadFault, OnNotMade};
+    ghost use Rattle.rm_master.specs.Faults.{IfVolume, IfDamaged, IfReadFault, OnNotMade, IfCreateFault, OnAlreadyMade, IsVolumeFault};
     ghost use Rattle.rm_master.specs.Fields.{IsFields};
-    ghost use Rattle.rm_master.specs.Slots.{Stands, IsDamagedAt};
+    ghost use Rattle.rm_master.specs.Slots.{Stands, IsDamagedAt, IsUnmade};
+    ghost use Rattle.rm_master.specs.Steps.{IsUntouched};
+    ghost use Rattle.rm_master.specs.Fresh.{IsFresh};
 
     /// Reads the master.
     ///
@@ -58,5 +63,37 @@ impl Master {
         let slot = parity % 2;
         let fields = read_slot(volume, slot)?;
         Ok(Master { fields, slot })
+    }
+
+    /// Makes a volume of so many pages, all of them empty, and an empty log. After an error other than
+    /// [`CreateFault::AlreadyMade`] the volume may be made or not.
+    ///
+    /// # Errors
+    ///
+    /// [`CreateFault::AlreadyMade`] exactly where the made byte is 1; then nothing was written.
+    /// [`rm_types::Fault::Volume`] names the area that failed.
+    pub fn create<V: Volume>(volume: &mut V, pages: u32) -> Result<(), CreateFault>
+        requires { (1 ≤ pages) × (pages ≤ MAX_PAGES) }
+        ensures fresh { OnOk result ((c : Image) → V.may_leave volume.new c → IsFresh pages c) }
+        ensures not_made { OnOk result (IsTrue V.tells → V.content volume.old master_area MADE_AT ≢ MADE) }
+        ensures any_moment { LeavesOnly (V.moment volume.old) (V.moment volume.new) (V.left_since volume.old) (V.left_since volume.new) (λ c. V.may_leave volume.old c ⊎ (IsUnmade c ⊎ IsFresh pages c)) }
+        ensures made { IsTrue V.tells → V.content volume.old master_area MADE_AT ≡ MADE → IsUntouched (V.content volume.old) (V.content volume.new) (V.may_leave volume.old) (V.may_leave volume.new) }
+        ensures made_any_moment { IsTrue V.tells → V.content volume.old master_area MADE_AT ≡ MADE → LeavesOnly (V.moment volume.old) (V.moment volume.new) (V.left_since volume.old) (V.left_since volume.new) (V.may_leave volume.old) }
+        ensures already { IfErr result (λ error. OnAlreadyMade error (IsTrue V.tells → V.content volume.old master_area MADE_AT ≡ MADE)) }
+        ensures already_untouched { IfErr result (λ error. OnAlreadyMade error (IsUntouched (V.content volume.old) (V.content volume.new) (V.may_leave volume.old) (V.may_leave volume.new))) }
+        ensures already_any_moment { IfErr result (λ error. OnAlreadyMade error (LeavesOnly (V.moment volume.old) (V.moment volume.new) (V.left_since volume.old) (V.left_since volume.new) (V.may_leave volume.old))) }
+        ensures cause { IfErr result (λ error. IfCreateFault error (IsVolumeFault (V.faults volume.old) (V.faults volume.new))) }
+        ensures counts { (other : Area) → V.faults volume.old other ≤ V.faults volume.new other }
+        ensures blocks { V.data_reads volume.new ≡ V.data_reads volume.old }
+        ensures log_bytes { V.log_reads volume.new ≡ V.log_reads volume.old }
+        ensures same { V.reference volume.new ≡ V.reference volume.old }
+    {
+        calls::sync_areas(volume)?;
+        let mut made = [0u8; 1];
+        calls::read_master(volume, MADE_AT, &mut made)?;
+        if made[0] == MADE {
+            return Err(CreateFault::AlreadyMade);
+        }
+        Ok(make(volume, pages)?)
     }
 }
