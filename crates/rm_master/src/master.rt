@@ -6,9 +6,9 @@ use crate::calls;
 use crate::creation::make;
 use crate::faults::{CreateFault, MasterFault};
 use crate::fields::{Fields, MADE, MADE_AT};
-use crate::slots::read_slot;
+use crate::slots::{read_slot, write_parity, write_slot};
 use rm_outside::Volume;
-use rm_types::MAX_PAGES;
+use rm_types::{Fault, MAX_PAGES};
 
 /// The master of a volume that is made.
 #[derive(Debug, Drop)]
@@ -21,16 +21,16 @@ pub struct Master {
 }
 
 impl Master {
-    ghost use Rattle.std.specs.Prelude.{◌≡◌, ◌≢◌, ℕ, ◌≤◌, ◌⊎◌, IsTrue, IsErr, IfOk, IfErr, OnOk};
+    ghost use Rattle.std.specs.Prelude.{◌≡◌, ◌≢◌, ℕ, ◌≤◌, ◌⊎◌, IsTrue, IsErr, IfOk, IfErr, OnOk, OnErr};
     ghost use Rattle.rm_types.specs.declared.areas.Area.{Area};
     ghost use Rattle.rm_types.specs.declared.areas.Area.TheVariants.{Master as master_area};
     ghost use Rattle.rm_outside.specs.Faults.{Rises};
     ghost use Rattle.rm_outside.specs.Images.{Image};
-    ghost use Rattle.rm_outside.specs.Moments.{AddsNone, LeavesOnly};
+    ghost use Rattle.rm_outside.specs.Moments.{AddsNone, Follows, IsDurable, LeavesOnly};
     ghost use Rattle.rm_master.specs.Faults.{IfVolume, IfDamaged, IfReadFault, OnNotMade, IfCreateFault, OnAlreadyMade, IsVolumeFault};
     ghost use Rattle.rm_master.specs.Fields.{IsFields};
-    ghost use Rattle.rm_master.specs.Slots.{Stands, IsDamagedAt, IsUnmade};
-    ghost use Rattle.rm_master.specs.Steps.{IsUntouched};
+    ghost use Rattle.rm_master.specs.Slots.{Stands, GoesTo, IsDamagedAt, IsUnmade};
+    ghost use Rattle.rm_master.specs.Steps.{After, KeepsOthers, IsUntouched};
     ghost use Rattle.rm_master.specs.Fresh.{IsFresh};
 
     /// Reads the master.
@@ -95,5 +95,35 @@ impl Master {
             return Err(CreateFault::AlreadyMade);
         }
         Ok(make(volume, pages)?)
+    }
+
+    /// Writes these fields in place of the old ones: the other slot first, and once that is durable the
+    /// parity byte. After an error the volume has the old fields or these, so read it again.
+    ///
+    /// # Errors
+    ///
+    /// [`Fault::Volume`] where the area Master failed.
+    pub fn write<V: Volume>(&mut self, volume: &mut V, next: &Fields) -> Result<(), Fault>
+        requires rules { IsFields next.now }
+        requires stands { (c : Image) → V.may_leave volume.old c → Stands self.old.slot self.old.fields (c master_area) }
+        ensures written { OnOk result (self.new.fields ≡ next.now) }
+        ensures stands { OnOk result ((c : Image) → V.may_leave volume.new c → Stands self.new.slot next.now (c master_area)) }
+        ensures durable { OnOk result (IsDurable master_area (V.content volume.new) (V.may_leave volume.new)) }
+        ensures unchanged { OnErr result ((self.new.fields ≡ self.old.fields) × (self.new.slot ≡ self.old.slot)) }
+        ensures content { KeepsOthers master_area (V.content volume.old) (V.content volume.new) }
+        ensures crash { Follows (GoesTo self.old.fields next.now) (V.may_leave volume.old) (V.may_leave volume.new) }
+        ensures any_moment { LeavesOnly (V.moment volume.old) (V.moment volume.new) (V.left_since volume.old) (V.left_since volume.new) (After (GoesTo self.old.fields next.now) (V.may_leave volume.old)) }
+        ensures cause { IfErr result (IsVolumeFault (V.faults volume.old) (V.faults volume.new)) }
+        ensures counts { (other : Area) → V.faults volume.old other ≤ V.faults volume.new other }
+        ensures blocks { V.data_reads volume.new ≡ V.data_reads volume.old }
+        ensures log_bytes { V.log_reads volume.new ≡ V.log_reads volume.old }
+        ensures same { V.reference volume.new ≡ V.reference volume.old }
+    {
+        let other = 1 - self.slot;
+        write_slot(volume, other, next)?;
+        write_parity(volume, other)?;
+        self.fields = *next;
+        self.slot = other;
+        Ok(())
     }
 }

@@ -1,18 +1,19 @@
 //! The slots of the master.
 
-ghost use Rattle.std.specs.Prelude.{◌≡◌, ℕ, ◌<◌, ◌≤◌, IsTrue, IfOk, IfErr, IfSome, IfNone};
+ghost use Rattle.std.specs.Prelude.{◌≡◌, ℕ, ◌<◌, ◌≤◌, [], ◌∷◌, IsTrue, IfOk, OnOk, IfErr, IfSome, IfNone};
 ghost use Rattle.rm_types.specs.declared.areas.Area.{Area};
 ghost use Rattle.rm_outside.specs.Faults.{Rises};
-ghost use Rattle.rm_outside.specs.Images.{Shows};
-ghost use Rattle.rm_outside.specs.Moments.{AddsNone, LeavesOnly};
+ghost use Rattle.rm_outside.specs.Images.{Image, Shows, Torn};
+ghost use Rattle.rm_outside.specs.Moments.{AddsNone, Follows, IsDurable, LeavesOnly};
 ghost use Rattle.rm_master.specs.declared.fields.Fields.{Fields as the_fields};
-ghost use Rattle.rm_master.specs.Faults.{IfVolume, IfDamaged};
+ghost use Rattle.rm_master.specs.Faults.{IfVolume, IfDamaged, IsVolumeFault};
 ghost use Rattle.rm_master.specs.Fields.{IsFields, slot_bytes};
 ghost use Rattle.rm_master.specs.Slots.{slot_at};
+ghost use Rattle.rm_master.specs.Steps.{After};
 
 use crate::calls;
-use crate::fields::{Fields, SLOT_BYTES, SLOT_ROOM, SLOTS_AT};
-use crate::spelling::spelled;
+use crate::fields::{Fields, PARITY_AT, SLOT_BYTES, SLOT_ROOM, SLOTS_AT};
+use crate::spelling::{spelled, spelling};
 use rm_outside::Volume;
 use rm_types::{Area, Fault};
 
@@ -63,4 +64,38 @@ pub fn read_slot<V: Volume>(volume: &mut V, slot: u8) -> Result<Fields, Fault>
             at,
         }),
     }
+}
+
+/// Writes the fields to the slot, and makes it durable.
+pub fn write_slot<V: Volume>(volume: &mut V, slot: u8, fields: &Fields) -> Result<(), Fault>
+    requires { slot < 2 }
+    ensures shows { OnOk result ((c : Image) → V.may_leave volume.new c → Shows (c Area.Master) (slot_at slot) (slot_bytes fields.now)) }
+    ensures content { Torn Area.Master (slot_at slot) (slot_bytes fields.now) (V.content volume.old) (V.content volume.new) }
+    ensures crash { Follows (Torn Area.Master (slot_at slot) (slot_bytes fields.now)) (V.may_leave volume.old) (V.may_leave volume.new) }
+    ensures any_moment { LeavesOnly (V.moment volume.old) (V.moment volume.new) (V.left_since volume.old) (V.left_since volume.new) (After (Torn Area.Master (slot_at slot) (slot_bytes fields.now)) (V.may_leave volume.old)) }
+    ensures counts { (other : Area) → V.faults volume.old other ≤ V.faults volume.new other }
+    ensures cause { IfErr result (IsVolumeFault (V.faults volume.old) (V.faults volume.new)) }
+    ensures blocks { V.data_reads volume.new ≡ V.data_reads volume.old }
+    ensures log_bytes { V.log_reads volume.new ≡ V.log_reads volume.old }
+    ensures same { V.reference volume.new ≡ V.reference volume.old }
+{
+    calls::write(volume, Area::Master, slot_offset(slot), &spelling(fields))?;
+    calls::sync(volume, Area::Master)
+}
+
+/// Writes the parity byte that names the slot, and makes it durable.
+pub fn write_parity<V: Volume>(volume: &mut V, slot: u8) -> Result<(), Fault>
+    ensures names { OnOk result ((c : Image) → V.may_leave volume.new c → c Area.Master PARITY_AT ≡ slot) }
+    ensures durable { OnOk result (IsDurable Area.Master (V.content volume.new) (V.may_leave volume.new)) }
+    ensures content { Torn Area.Master PARITY_AT (slot ∷ []) (V.content volume.old) (V.content volume.new) }
+    ensures crash { Follows (Torn Area.Master PARITY_AT (slot ∷ [])) (V.may_leave volume.old) (V.may_leave volume.new) }
+    ensures any_moment { LeavesOnly (V.moment volume.old) (V.moment volume.new) (V.left_since volume.old) (V.left_since volume.new) (After (Torn Area.Master PARITY_AT (slot ∷ [])) (V.may_leave volume.old)) }
+    ensures counts { (other : Area) → V.faults volume.old other ≤ V.faults volume.new other }
+    ensures cause { IfErr result (IsVolumeFault (V.faults volume.old) (V.faults volume.new)) }
+    ensures blocks { V.data_reads volume.new ≡ V.data_reads volume.old }
+    ensures log_bytes { V.log_reads volume.new ≡ V.log_reads volume.old }
+    ensures same { V.reference volume.new ≡ V.reference volume.old }
+{
+    calls::write(volume, Area::Master, PARITY_AT, &[slot])?;
+    calls::sync(volume, Area::Master)
 }
