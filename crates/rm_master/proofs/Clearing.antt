@@ -1,5 +1,5 @@
 -- Zeros in blocks.
-use Rattle.std.proofs.Common.{◌≡◌, ℕ, ◌+◌, ◌-◌, ◌*◌, ◌<◌, ◌≤◌, List, length, get_or, sym, ◌∙◌, ap, inl, inr, arith}
+use Rattle.std.proofs.Common.{◌≡◌, ℕ, ◌+◌, ◌-◌, ◌*◌, ◌<◌, List, length, get_or, ◌∙◌, ap, inl, inr, arith}
 use Rattle.std.proofs.lemmas.Bool.{cases_lt}
 use Rattle.rm_types.specs.declared.areas.Area.{Area}
 use Rattle.rm_outside.specs.Images.{Image, Shows, Torn}
@@ -14,7 +14,7 @@ zeros_on area old new size block zeros len are_zeros torn shown below = record {
     at k lt = elim (cases_lt k (size * block)) [
       | inl front ↦ torn.before k front ∙ below.each k front
       | inr behind ↦
-        let short : k - size * block < size = omega arith in
-        let place : k ≡ size * block + (k - size * block) = omega arith in
-        ap (new area) place ∙ shown.each (k - size * block) (omega arith) ∙ are_zeros (k - size * block) short
+          let short : k - size * block < size = omega arith in
+          let place : k ≡ size * block + (k - size * block) = omega arith in
+          ap (new area) place ∙ shown.each (k - size * block) (omega arith) ∙ are_zeros (k - size * block) short
     ]

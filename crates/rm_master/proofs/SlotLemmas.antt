@@ -1,5 +1,5 @@
 -- Slots and the fields that they spell.
-use Rattle.std.proofs.Common.{◌≡◌, ℕ, zero, suc, ◌+◌, ◌^◌, ◌<◌, ◌≤◌, Bool, true, false, nat_eq, List, [], ◌∷◌, ◌++◌, length, get_or, take, drop, refl, sym, ◌∙◌, ap, arith}
+use Rattle.std.proofs.Common.{◌≡◌, ℕ, zero, suc, ◌+◌, ◌<◌, ◌≤◌, Bool, true, false, nat_eq, List, [], ◌∷◌, ◌++◌, length, get_or, drop, refl, sym, ◌∙◌, ap, arith}
 use Rattle.std.proofs.Math.Seq.{drop-cons}
 use Rattle.std.proofs.lemmas.List.{ext_get_or}
 use Rattle.std.proofs.lemmas.Nat.{be_bytes_2, be_bytes_4, be_bytes_8, from_be_bytes-to_be_bytes_2, from_be_bytes-to_be_bytes_4, from_be_bytes-to_be_bytes_8}
@@ -129,4 +129,3 @@ one_spelling f g f_fit g_fit same = sym (spelled_again f f_fit) ∙ ap fields_in
 pub one_shown : (area : Bytes) (at : ℕ) (f g : Fields) → IsFields f → IsFields g → Shows area at (slot_bytes f) → Shows area at (slot_bytes g) → f ≡ g
 one_shown area at f g f_rules g_rules f_shown g_shown =
     one_spelling f g (IsFields-in_range f f_rules) (IsFields-in_range g g_rules) (one_list area at (slot_bytes f) (slot_bytes g) (length-slot_bytes f ∙ sym (length-slot_bytes g)) f_shown g_shown)
-

@@ -5,10 +5,9 @@ use Rattle.rm_types.specs.declared.areas.Area.TheVariants.{Master, Log, Data, Sp
 use Rattle.rm_types.specs.declared.faults.Fault.{Fault}
 use Rattle.rm_types.specs.declared.faults.Fault.TheVariants.{Volume, Damaged}
 use Rattle.rm_outside.specs.Images.{Image}
-use Rattle.rm_outside.specs.Moments.{AddsNone, Follows, IsDurable, LeavesOnly, joined, weaker}
-use Rattle.rm_outside.proofs.FaultLemmas.{Rises-later, Rises-before}
+use Rattle.rm_outside.specs.Moments.{AddsNone, IsDurable, LeavesOnly, joined, weaker}
+use Rattle.rm_outside.proofs.FaultLemmas.{Rises-before}
 use Rattle.rm_master.specs.Faults.{IsVolumeFault}
-use Rattle.rm_master.specs.Steps.{After}
 
 -- a count that rose in the second of two calls rose in both
 pub IsVolumeFault-before : (a b c : Area → ℕ) (fault : Fault) → ((area : Area) → a area ≤ b area) → IsVolumeFault b c fault → IsVolumeFault a c fault

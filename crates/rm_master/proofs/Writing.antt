@@ -1,5 +1,5 @@
 -- What writes to the master leave.
-use Rattle.std.proofs.Common.{◌≡◌, ℕ, ◌+◌, ◌-◌, ◌*◌, ◌%◌, ◌≤◌, ◌<◌, ◌⊎◌, inl, inr, ⊎_elim, List, [], ◌∷◌, length, refl, sym, ◌∙◌, ap, subst, arith}
+use Rattle.std.proofs.Common.{◌≡◌, ℕ, ◌+◌, ◌-◌, ◌%◌, ◌≤◌, ◌<◌, ◌⊎◌, inl, inr, List, [], ◌∷◌, refl, sym, ◌∙◌, ap, subst, arith}
 use Rattle.std.proofs.lemmas.Bool.{cases_eq}
 use Rattle.rm_types.specs.declared.areas.Area.TheVariants.{Master}
 use Rattle.rm_types.specs.declared.numbers.TheConstants.{MAX_PAGES}
@@ -73,12 +73,13 @@ pub parity_goes : (slot : ℕ) (fields next : Fields) (old new : Image) → slot
 parity_goes slot fields next old new small rules torn stands shown = elim (cases_eq (current (new Master)) slot) [
   | inl is_old ↦ inl (record { made = made; rules = stands.has.rules; slot = (named_slot slot (new Master) fields stands.has.rules is_old (slot_kept slot _ old new _ torn at_slot)).slot })
   | inr is_other ↦
-    let is_next : current (new Master) ≡ 1 - slot = omega arith in
-    inr (record { made = made; rules = rules; slot = (named_slot (1 - slot) (new Master) next rules is_next (slot_kept (1 - slot) _ old new _ torn shown)).slot })
+      let is_next : current (new Master) ≡ 1 - slot = omega arith in
+      inr (record { made = made; rules = rules; slot = (named_slot (1 - slot) (new Master) next rules is_next (slot_kept (1 - slot) _ old new _ torn shown)).slot })
 ]
   where
     made : new Master MADE_AT ≡ MADE
     made = torn.before MADE_AT (omega arith) ∙ stands.has.made
+
     at_slot : Shows (old Master) (slot_at slot) (slot_bytes fields)
     at_slot = let P : ℕ → Type 0 = λ n. Shows (old Master) (slot_at n) (slot_bytes fields) in subst P stands.is_current stands.has.slot
 
@@ -116,8 +117,11 @@ module _ (slot : ℕ) (fields next : Fields) (small : slot < 2) (rules : IsField
   goes_second follows shown c (e, half, torn) =
       let before = follows.each e half in
       let d = before.0 in
-      let stands = stands_on slot fields next d e small before.2 (stand d before.1) in
-      (d, before.1, record {
-        others = record { each = λ other ne. torn.areas other ne ∙ before.2.areas other ne };
-        master = parity_goes slot fields next e c small rules torn stands (shown e half);
-      })
+      let stands = stands_on slot fields next d e small before.2 (stand d before.1) in (
+        d,
+        before.1,
+        record {
+          others = record { each = λ other ne. torn.areas other ne ∙ before.2.areas other ne };
+          master = parity_goes slot fields next e c small rules torn stands (shown e half);
+        },
+      )

@@ -123,7 +123,12 @@ fn write_first_slot<V: Volume>(volume: &mut V, pages: u32) -> Result<(), Fault>
     ensures log_bytes { V.log_reads volume.new ≡ V.log_reads volume.old }
     ensures same { V.reference volume.new ≡ V.reference volume.old }
 {
-    write(volume, Area::Master, SLOTS_AT, &spelling(&Fields::fresh(pages)))?;
+    write(
+        volume,
+        Area::Master,
+        SLOTS_AT,
+        &spelling(&Fields::fresh(pages)),
+    )?;
     write(volume, Area::Master, PARITY_AT, &[FIRST_SLOT])?;
     sync(volume, Area::Master)
 }

@@ -8,5 +8,4 @@ ghost use Rattle.rm_master.specs.Slots.{HasFields};
 /// An area has one reading.
 pub fn an_area_has_one_reading()
     ensures { (area : Bytes) (f g : the_fields) → HasFields area f → HasFields area g → f ≡ g }
-{
-}
+{}

@@ -1,4 +1,4 @@
-use Rattle.std.proofs.Common.{◌≡◌, ℕ, ◌*◌, ◌≤◌, IsTrue}
+use Rattle.std.proofs.Common.{◌≡◌, ◌*◌, ◌≤◌, IsTrue}
 use Rattle.rm_types.specs.declared.areas.Area.{Area}
 use Rattle.rm_outside.specs.Moments.{Follows, LeavesOnly}
 use Rattle.rm_master.specs.declared.fields.TheConstants.{BLOCK}

@@ -7,5 +7,5 @@ pub returns-clause-made : goal.returns-clause-made
 returns-clause-made g c =
     on_ok_weaker c.sync.result
     (λ durable image left.
-      ap (λ area. area MADE_AT) (durable.each image left) ∙ (c.in_ok-write.ensures.written (g.met.V.Volume.only_told c.sync.new.volume image left)).each 0 (omega arith))
+    ap (λ area. area MADE_AT) (durable.each image left) ∙ (c.in_ok-write.ensures.written (g.met.V.Volume.only_told c.sync.new.volume image left)).each 0 (omega arith))
     c.sync.ensures.durable

@@ -1,4 +1,3 @@
-use Rattle.std.proofs.Common.{ℕ}
 use Rattle.std.proofs.lemmas.List.{get_or-replicate}
 use Rattle.rm_master.specs.declared.fields.TheConstants.{BLOCK}
 use Rattle.rm_master.proofs.creation.zero_block.Goals as goal

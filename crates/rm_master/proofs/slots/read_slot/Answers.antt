@@ -1,7 +1,6 @@
 use Rattle.std.proofs.Common.{◌≡◌, length, sym, ◌∙◌, rules as std_rules}
 use Rattle.rm_types.specs.declared.areas.Area.TheVariants.{Master}
 use Rattle.rm_outside.specs.Images.{Shows}
-use Rattle.rm_master.specs.Fields.{slot_bytes}
 use Rattle.rm_master.specs.Slots.{slot_at}
 use Rattle.rm_master.proofs.SlotLemmas.{one_list, length-slot_bytes}
 use Rattle.rm_master.proofs.slots.read_slot.Goals as goal

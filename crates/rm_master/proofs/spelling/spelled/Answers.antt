@@ -1,4 +1,4 @@
-use Rattle.std.proofs.Common.{ℕ, ◌≤◌, get_or, nat_eq, length, ◌≡◌, ap, sym, ◌∙◌, arith, rules}
+use Rattle.std.proofs.Common.{◌≤◌, get_or, nat_eq, ap, sym, ◌∙◌, arith, rules}
 use Rattle.rm_master.specs.Fields.{slot_bytes}
 use Rattle.rm_master.proofs.SlotLemmas.{spelled_back, slot_flag}
 use Rattle.rm_master.proofs.spelling.spelled.Goals as goal

@@ -1,4 +1,3 @@
-use Rattle.std.proofs.Common.{ℕ, ◌≡◌}
 use Rattle.rm_master.specs.Fields.{slot_bytes}
 use Rattle.rm_master.proofs.spelling.spelling.Goals as goal
 
