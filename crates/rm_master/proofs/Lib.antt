@@ -1,0 +1,4 @@
+pub mod Stretches
+pub mod SlotLemmas
+pub mod Clearing
+pub mod Writing
