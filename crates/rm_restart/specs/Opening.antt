@@ -1,0 +1,78 @@
+-- What an opening finds in a volume.
+use Rattle.std.specs.Prelude.{◌≡◌, ℕ, ◌+◌, ◌<◌, ◌⊎◌, List, [], ◌∷◌, ◌++◌, length}
+use Rattle.rm_types.specs.declared.areas.Area.{Area}
+use Rattle.rm_types.specs.declared.areas.Area.TheVariants.{Master, Log, Data, Space, Copy}
+use Rattle.rm_types.specs.declared.slots.Slot.{Slot}
+use Rattle.rm_types.specs.declared.slots.TheConstants.{CAPACITY}
+use Rattle.rm_outside.specs.Images.{Image}
+use Rattle.rm_model.specs.Pages.{used}
+use Rattle.rm_model.specs.Session.{page_at}
+use Rattle.rm_record.specs.declared.records.Logged.{Logged}
+use Rattle.rm_master.specs.declared.fields.Fields.{Fields}
+use Rattle.rm_master.specs.Fields.{IsFields}
+use Rattle.rm_master.specs.Slots.{HasFields, IsDamagedAt as IsMasterDamagedAt}
+use Rattle.rm_wal.specs.Tails.{LogValue}
+use Rattle.rm_history.specs.Logs.{Batch, gate_of, AreBatches, HasLog, IsDamagedAt as IsLogDamagedAt}
+use Rattle.rm_history.specs.Histories.{History, history_of, page_of, pending, greatest_id, inserts}
+use Rattle.rm_history.specs.Legal.{IsBelow, AreBelow}
+
+-- The fields and the batches that were read: those of the content, where it is told.
+pub record WasRead (told : Type 0) (content : Image) (fields : Fields) (batches : List Batch) : Type 0 where
+  pub is_fields : IsFields fields
+  pub has_fields : told → HasFields (content Master) fields
+  pub checkpoint : fields.checkpoint ≡ 0
+  pub are_batches : AreBatches batches
+  pub has_log : told → HasLog (content Log) batches
+
+-- The pages are those of the log, nothing is pending in it, and the next id is one more than each.
+pub record Opens (told : Type 0) (content : Image) (limit : ℕ) (pages : List (List Slot)) (next : ℕ) (log : LogValue) (inserted : ℕ) : Type 0 where
+  pub fields : Fields
+  pub batches : List Batch
+  pub read : WasRead told content fields batches
+  pub below : AreBelow fields.pages (history_of batches)
+  pub settled : (id : ℕ) → pending (history_of batches) id ≡ []
+  pub count : length pages ≡ fields.pages
+  pub pages_are : (page : ℕ) → page < fields.pages → page_at pages page ≡ page_of (history_of batches) page
+  pub next_is : next ≡ greatest_id (history_of batches) + 1
+  pub log_is : log ≡ record { batch = gate_of batches; tail = []; limit = limit }
+  pub inserted_is : inserted ≡ inserts (history_of batches)
+
+-- The transaction is the least that has a pending record.
+pub record NeedsUndoOf (told : Type 0) (content : Image) (id : ℕ) : Type 0 where
+  pub fields : Fields
+  pub batches : List Batch
+  pub read : WasRead told content fields batches
+  pub pends : pending (history_of batches) id ≡ [] → ⊥
+  pub least : (other : ℕ) → other < id → pending (history_of batches) other ≡ []
+
+-- The record with this LSN is the first that names no page of the file, or with which its page does not fit.
+pub record IsMisfitAt (pages : ℕ) (history : History) (at : ℕ) : Type 0 where
+  pub more : History
+  pub logged : Logged
+  pub before : History
+  pub split : history ≡ more ++ logged ∷ before
+  pub place : at ≡ logged.lsn.0
+  pub fits : AreBelow pages before
+  pub misfit : (IsBelow pages logged.what → ⊥) ⊎ ((page : ℕ) × (CAPACITY < used (page_of (logged ∷ before) page)))
+
+-- The place of the log at which a read went wrong: out of its grammar, no checkpoint's record, or a misfit.
+pub record IsMisfitOf (content : Image) (at : ℕ) : Type 0 where
+  pub fields : Fields
+  pub batches : List Batch
+  pub read : HasFields (content Master) fields
+  pub has_log : HasLog (content Log) batches
+  pub misfit : IsMisfitAt fields.pages (history_of batches) at
+
+pub record NamesCheckpoint (content : Image) (at : ℕ) : Type 0 where
+  pub fields : Fields
+  pub read : HasFields (content Master) fields
+  pub place : at ≡ fields.checkpoint
+  pub some : at ≡ 0 → ⊥
+
+-- what is damaged stands there
+abbrev pub IsDamage : Image → Area → ℕ → Type 0
+IsDamage content Master at = IsMasterDamagedAt (content Master) at
+IsDamage content Log at = IsLogDamagedAt (content Log) at ⊎ (NamesCheckpoint content at ⊎ IsMisfitOf content at)
+IsDamage content Data at = ⊥
+IsDamage content Space at = ⊥
+IsDamage content Copy at = ⊥
