@@ -1,9 +1,12 @@
 -- What a crash during a flush leaves.
 use Rattle.std.specs.Prelude.{◌≡◌, ℕ, ◌+◌, ◌<◌, List, [], ◌∷◌, ◌++◌, length, ◌⊎◌}
 use Rattle.std.specs.Int.{to_be_bytes, w32}
+use Rattle.std.specs.List.{AllByRecursion}
 use Rattle.rm_types.specs.declared.areas.Area.{Area}
 use Rattle.rm_types.specs.declared.areas.Area.TheVariants.{Log}
 use Rattle.rm_outside.specs.Images.{Image, Shows}
+use Rattle.rm_record.specs.Records.{spelling_all, IsRecord}
+use Rattle.rm_history.specs.Logs.{Batch, gate_of, HasLog}
 
 -- what is written behind the gate: the length of the tail, the tail, and a closed gate
 abbrev pub written_tail : List ℕ → List ℕ
@@ -26,3 +29,15 @@ pub record ComesByFlush (gate : ℕ) (written : List ℕ) (left : Image → Type
 pub record IsFlushed (gate : ℕ) (written : List ℕ) (c : Image) : Type 0 where
   pub opened : c Log gate ≡ 1
   pub shown : Shows (c Log) (gate + 1) written
+
+-- the log of the area is one of two
+abbrev pub HasEither : List Batch → Batch → Image → Type 0
+HasEither batches batch c = HasLog (c Log) batches ⊎ HasLog (c Log) (batch ∷ batches)
+
+-- The tail is that of the batch, which is to stand behind these batches; they are the log of each image
+-- that may be left.
+pub record Tails (gate : ℕ) (tail : List ℕ) (left : Image → Type 0) (batches : List Batch) (batch : Batch) : Type 0 where
+  pub behind : gate ≡ gate_of batches
+  pub spelled : tail ≡ spelling_all batch
+  pub records : AllByRecursion IsRecord batch
+  pub logs : (c : Image) → left c → HasLog (c Log) batches

@@ -1,6 +1,6 @@
 //! The log in memory: its tail, and how it is made durable.
 
-ghost use Rattle.std.specs.Prelude.{◌≡◌, ℕ, ◌+◌, ◌<◌, ◌≤◌, List, [], ◌++◌, length, drop, vec_len, vec_capacity, IfOk, IsOk, OnOk, OnErr, Err, MatchResult};
+ghost use Rattle.std.specs.Prelude.{◌≡◌, ℕ, ◌+◌, ◌<◌, ◌≤◌, List, [], ◌∷◌, ◌++◌, length, drop, vec_len, vec_capacity, IfOk, IsOk, OnOk, OnErr, Err, MatchResult};
 ghost use Rattle.std.specs.Int.{w32, to_be_bytes};
 ghost use Rattle.rm_types.specs.declared.areas.Area.{Area as Areas};
 ghost use Rattle.rm_types.specs.declared.faults.Fault.{Fault as Faults};
@@ -10,8 +10,9 @@ ghost use Rattle.rm_outside.specs.Faults.{Rises};
 ghost use Rattle.rm_outside.specs.Moments.{IsDurable, LeavesOnly};
 ghost use Rattle.rm_record.specs.Records.{spelling, IsRecord};
 ghost use Rattle.rm_history.specs.declared.TheConstants.{BATCH_HEADER, MAX_BATCH};
+ghost use Rattle.rm_history.specs.Logs.{Batch, IsInRange, HasLog};
 ghost use Rattle.rm_wal.specs.Tails.{end_of};
-ghost use Rattle.rm_wal.specs.Flushing.{ComesByFlush, IsFlushed, written_tail};
+ghost use Rattle.rm_wal.specs.Flushing.{ComesByFlush, IsFlushed, Tails, HasEither, written_tail};
 
 use crate::flushing::write_batch;
 use rm_history::BATCH_HEADER;
@@ -188,6 +189,13 @@ impl Log {
         // A crash at any moment of the call leaves the gate as it was, or the whole tail behind it.
         ensures any_moment { LeavesOnly (V.moment volume.old) (V.moment volume.new) (V.left_since volume.old) (V.left_since volume.new)
             (ComesByFlush self.old.batch (written_tail self.old.tail) (V.may_leave volume.old)) }
+
+        // So the log of each image is the old one, or that with the tail as its newest batch; and at last the latter.
+        ensures range { 0 < length self.old.tail → IsInRange self.old.batch (length self.old.tail) }
+        ensures logs { (batches : List Batch) (batch : Batch) → Tails self.old.batch self.old.tail (V.may_leave volume.old) batches batch
+            → LeavesOnly (V.moment volume.old) (V.moment volume.new) (V.left_since volume.old) (V.left_since volume.new) (HasEither batches batch) }
+        ensures logs_ok { OnOk result ((batches : List Batch) (batch : Batch) → Tails self.old.batch self.old.tail (V.may_leave volume.old) batches batch
+            → 0 < length self.old.tail → (c : Image) → V.may_leave volume.new c → HasLog (c Area.Log) (batch ∷ batches)) }
 
         ensures cause { (fault : Faults) → result ≡ Err fault → (fault ≡ Fault.Volume Area.Log) × Rises (V.faults volume.old Area.Log) (V.faults volume.new Area.Log) }
         ensures counts { (area : Areas) → V.faults volume.old area ≤ V.faults volume.new area }
