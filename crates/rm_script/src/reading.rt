@@ -112,7 +112,8 @@ fn behind_line<'a>(line: &[u8], bytes: &'a [u8]) -> Option<&'a [u8]>
     if text == line { Some(after) } else { None }
 }
 
-/// Reads lines, at most `count`, up to the first text that spells none, and gives what is left from there.
+/// Reads lines up to the first text that spells none, and gives what is left from there; there are at most
+/// `count`.
 fn read_lines(alloc: Global, bytes: &[u8], count: usize) -> Result<(Vec<Line>, &[u8]), NoMemory>
     ensures read { IfOk result (λ read. HasRead bytes.now read.0.items read.1.now) }
     ensures stops { IfOk result (λ read. StopsAt (lines_of read.1.now)) }
