@@ -1,0 +1,7 @@
+//! One session on a volume: it does a line at a time, logs what the line changes, and answers a commit
+//! once it is durable.
+#![tactic(auto)]
+
+mod room;
+
+pub use room::{CHANGE_COST, INSERT_SIZE, OWED};
