@@ -1,2 +1,2 @@
-mod FieldLaws
-mod RecordLaws
+pub mod FieldLaws
+pub mod RecordLaws
