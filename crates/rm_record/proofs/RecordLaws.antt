@@ -8,6 +8,7 @@ use Rattle.rm_types.specs.declared.numbers.Lsn.{Lsn}
 use Rattle.rm_types.specs.declared.numbers.Rid.{Rid}
 use Rattle.rm_types.specs.declared.numbers.TheConstants.{MAX_PAGES, MAX_SLOT}
 use Rattle.rm_types.specs.declared.slots.TheConstants.{CAPACITY}
+use Rattle.rm_record.specs.declared.records.TheConstants.{MIN_RECORD, MAX_RECORD}
 use Rattle.rm_record.specs.declared.records.LogRecord.{LogRecord}
 use Rattle.rm_record.specs.declared.records.LogRecord.TheVariants as log
 use Rattle.rm_record.specs.Records.{AreBytes, IsTxn, IsRecord, rid_bytes, row_bytes, spelling}
@@ -86,6 +87,10 @@ pub spellings_are_apart : (a b : LogRecord) (x y : List ℕ) → IsRecord a → 
 spellings_are_apart a b x y p q e =
     let same : (a, x) ≡ (b, y) = some_is (a, x) (b, y) (sym (record_again a x p) ∙ ap record_field e ∙ record_again b y q) in
     (ap (λ (r : LogRecord × List ℕ). r.0) same, ap (λ (r : LogRecord × List ℕ). r.1) same)
+
+pub spellings_are_short : (logged : LogRecord) → IsRecord logged → (MIN_RECORD ≤ length (spelling logged)) × (length (spelling logged) ≤ MAX_RECORD)
+spellings_are_short (log.Insert txn under rid need row) h = (omega arith, omega (arith, h.short))
+spellings_are_short (log.Commit txn) h = (omega arith, omega arith)
 
 -- ---- what decode answers
 

@@ -59,7 +59,8 @@ impl LogRecord {
     ///
     /// # Errors
     ///
-    /// [`DecodeRefused::Bad`]: no front of the bytes is the spelling of a record.
+    /// [`DecodeRefused::Bad`]: no front of the bytes is the spelling of a record. [`DecodeRefused::NoMemory`]: there was
+    /// none for the row.
     pub fn decode(alloc: Global, bytes: &[u8]) -> Result<(LogRecord, usize), DecodeRefused>
         ensures found { IfOk result (λ found. IsRecord found.0 × (found.1 ≡ length (spelling found.0)) × (bytes.now ≡ spelling found.0 ++ drop found.1 bytes.now)) }
         ensures front { IfOk result (λ found. (found.1 ≤ length bytes.now) × (take found.1 bytes.now ≡ spelling found.0)) }

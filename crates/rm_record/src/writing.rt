@@ -20,9 +20,9 @@ fn append(bytes: &[u8], out: &mut Vec<u8>)
 
 // Appends a record's kind and its transaction, for which there is room.
 fn append_head(kind: u8, txn: TxnId, out: &mut Vec<u8>)
-    requires { vec_len out.old + 5 ≤ vec_capacity out.old }
+    requires { vec_len out.old + length (kind ∷ to_be_bytes w32 txn.0) ≤ vec_capacity out.old }
     ensures items { out.new.items ≡ out.old.items ++ kind ∷ to_be_bytes w32 txn.0 }
-    ensures len { vec_len out.new ≡ vec_len out.old + 5 }
+    ensures len { vec_len out.new ≡ vec_len out.old + length (kind ∷ to_be_bytes w32 txn.0) }
     ensures capacity { vec_capacity out.old ≤ vec_capacity out.new }
 {
     append(&[kind], out);
@@ -31,9 +31,9 @@ fn append_head(kind: u8, txn: TxnId, out: &mut Vec<u8>)
 
 // Appends a row id, for which there is room.
 fn append_rid(rid: Rid, out: &mut Vec<u8>)
-    requires { vec_len out.old + 6 ≤ vec_capacity out.old }
+    requires { vec_len out.old + length (rid_bytes rid) ≤ vec_capacity out.old }
     ensures items { out.new.items ≡ out.old.items ++ rid_bytes rid }
-    ensures len { vec_len out.new ≡ vec_len out.old + 6 }
+    ensures len { vec_len out.new ≡ vec_len out.old + length (rid_bytes rid) }
     ensures capacity { vec_capacity out.old ≤ vec_capacity out.new }
 {
     append(&rid.page.to_be_bytes(), out);
@@ -42,9 +42,9 @@ fn append_rid(rid: Rid, out: &mut Vec<u8>)
 
 // Appends a row, for which there is room.
 fn append_row(row: &Row, out: &mut Vec<u8>)
-    requires { vec_len out.old + 2 + length row.now ≤ vec_capacity out.old }
+    requires { vec_len out.old + length (row_bytes row.now) ≤ vec_capacity out.old }
     ensures items { out.new.items ≡ out.old.items ++ row_bytes row.now }
-    ensures len { vec_len out.new ≡ vec_len out.old + 2 + length row.now }
+    ensures len { vec_len out.new ≡ vec_len out.old + length (row_bytes row.now) }
     ensures capacity { vec_capacity out.old ≤ vec_capacity out.new }
 {
     let bytes = row.as_slice();
@@ -84,7 +84,11 @@ impl LogRecord {
         }
     }
 
-    /// Appends its spelling. It fails only where `out` lacks the room, and then leaves `out` as it was.
+    /// Appends its spelling. It asks for memory only where `out` lacks the room, and the room never shrinks.
+    ///
+    /// # Errors
+    ///
+    /// [`NoMemory`] leaves `out`'s bytes as they were.
     pub fn encode(&self, out: &mut Vec<u8>) -> Result<(), NoMemory>
         ensures ok { OnOk result (out.new.items ≡ out.old.items ++ spelling self.now) }
         ensures err { OnErr result (out.new.items ≡ out.old.items) }
