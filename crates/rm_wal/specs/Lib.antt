@@ -1,3 +1,4 @@
 pub mod Tails
 pub mod Flushing
+pub mod Batches
 pub mod Attaching

@@ -9,6 +9,8 @@
 mod attaching;
 mod flushing;
 mod log;
+mod parsing;
+mod reading;
 
 pub use attaching::Attached;
 pub use log::{LONG_TAIL, Log, LogFull};

@@ -1,0 +1,70 @@
+//! Reading area Log: a batch at a time.
+
+ghost use Rattle.std.specs.Prelude.{◌≡◌, ℕ, ◌+◌, ◌^◌, ◌<◌, ◌≤◌, ◌↔◌, ◌∷◌, IsTrue, length, vec_len, IfOk, IfSome, slice_index, OnOk, Ok, Err, Some, None};
+ghost use Rattle.std.specs.Int.{w32, to_be_bytes};
+ghost use Rattle.rm_types.specs.declared.areas.Area.{Area as Areas};
+ghost use Rattle.rm_types.specs.declared.faults.StoreFault.{StoreFault as StoreFaults};
+ghost use Rattle.rm_types.specs.declared.numbers.TheConstants.{MAX_LOG};
+ghost use Rattle.rm_outside.specs.Faults.{Rises};
+ghost use Rattle.rm_outside.specs.Images.{Shows};
+ghost use Rattle.rm_outside.specs.Reading.{OnlyReads};
+ghost use Rattle.rm_history.specs.declared.TheConstants.{BATCH_HEADER};
+ghost use Rattle.rm_history.specs.Logs.{IsInRange};
+ghost use Rattle.rm_wal.specs.Batches.{IsOutOfRange, IsWrongBehind, ReadsHeader, ReadsGate};
+
+use crate::parsing::read_records;
+use rm_history::{BATCH_HEADER, MAX_BATCH};
+use rm_outside::Volume;
+use rm_record::Logged;
+use rm_types::{Area, Fault, MAX_LOG, StoreFault};
+use std::alloc::Global;
+
+/// The byte of a gate that is open.
+const OPEN: u8 = 1;
+
+/// Fills `into` with the bytes of area Log at that offset.
+pub(crate) fn read_log<V: Volume>(volume: &mut V, at: u64, into: &mut [u8]) -> Result<(), StoreFault>
+    requires { at + length into.old ≤ 2 ^ 49 }
+    ensures bytes { OnOk result (IsTrue V.tells → Shows (V.content volume.old Area.Log) at into.new) }
+    ensures cause { (fault : StoreFaults) → result ≡ Err fault → (fault ≡ StoreFault.Fault (Fault.Volume Area.Log)) × Rises (V.faults volume.old Area.Log) (V.faults volume.new Area.Log) }
+    ensures reads { OnlyReads (V.content volume.old) (V.content volume.new) (V.may_leave volume.old) (V.may_leave volume.new)
+        (V.moment volume.old) (V.moment volume.new) (V.left_since volume.old) (V.left_since volume.new) (V.faults volume.old) (V.faults volume.new) }
+    ensures data_reads { V.data_reads volume.new ≡ V.data_reads volume.old }
+    ensures same { V.reference volume.new ≡ V.reference volume.old }
+{
+    match volume.read(Area::Log, at, into) {
+        Ok(()) => Ok(()),
+        Err(_) => Err(StoreFault::Fault(Fault::Volume { area: Area::Log })),
+    }
+}
+
+// Whether so many bytes of records may stand behind the gate.
+fn is_in_range(gate: u64, len: u32) -> bool
+    requires { gate ≤ MAX_LOG }
+    ensures { IsTrue result ↔ IsInRange gate len }
+{
+    let len = len as u64;
+    0 < len && len <= MAX_BATCH && gate + (BATCH_HEADER + len) <= MAX_LOG
+}
+
+// The length of the batch's records, None where the gate is closed.
+fn length_of(gate: u64, header: [u8; 5]) -> Result<Option<u32>, StoreFault>
+    requires { gate ≤ MAX_LOG }
+    ensures closed { result ≡ Ok None → slice_index header 0 ≡ 1 → ⊥ }
+    ensures opened { IfOk result (λ found. IfSome found (λ len. IsInRange gate len × (header ≡ 1 ∷ to_be_bytes w32 len))) }
+    ensures damaged { (area : Areas) (at : ℕ) → result ≡ Err (StoreFault.Fault (Fault.Damaged area at)) → (area ≡ Area.Log) × IsOutOfRange gate header at }
+    ensures volume { (area : Areas) → result ≡ Err (StoreFault.Fault (Fault.Volume area)) → ⊥ }
+{
+    let [gate_byte, a, b, c, d] = header;
+    if gate_byte != OPEN {
+        return Ok(None);
+    }
+    let len = u32::from_be_bytes([a, b, c, d]);
+    if !is_in_range(gate, len) {
+        return Err(StoreFault::Fault(Fault::Damaged {
+            area: Area::Log,
+            at: gate + 1,
+        }));
+    }
+    Ok(Some(len))
+}
