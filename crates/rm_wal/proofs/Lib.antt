@@ -1,2 +1,3 @@
 pub mod Crash
 pub mod RecordSteps
+pub mod Batches

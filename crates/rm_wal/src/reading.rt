@@ -68,3 +68,55 @@ fn length_of(gate: u64, header: [u8; 5]) -> Result<Option<u32>, StoreFault>
     }
     Ok(Some(len))
 }
+
+// The length of the records behind the gate, None where the gate is closed.
+fn read_header<V: Volume>(volume: &mut V, gate: u64) -> Result<Option<u32>, StoreFault>
+    requires { gate ≤ MAX_LOG }
+    ensures found { IfOk result (ReadsHeader (IsTrue V.tells) (V.content volume.old Area.Log) gate) }
+    ensures damaged { (area : Areas) (at : ℕ) → result ≡ Err (StoreFault.Fault (Fault.Damaged area at)) → (area ≡ Area.Log) × (IsTrue V.tells → IsWrongBehind (V.content volume.old Area.Log) gate at) }
+    ensures cause { (area : Areas) → result ≡ Err (StoreFault.Fault (Fault.Volume area)) → (area ≡ Area.Log) × Rises (V.faults volume.old Area.Log) (V.faults volume.new Area.Log) }
+    ensures reads { OnlyReads (V.content volume.old) (V.content volume.new) (V.may_leave volume.old) (V.may_leave volume.new)
+        (V.moment volume.old) (V.moment volume.new) (V.left_since volume.old) (V.left_since volume.new) (V.faults volume.old) (V.faults volume.new) }
+    ensures data_reads { V.data_reads volume.new ≡ V.data_reads volume.old }
+    ensures same { V.reference volume.new ≡ V.reference volume.old }
+{
+    let mut header = [0; BATCH_HEADER as usize];
+    read_log(volume, gate, &mut header)?;
+    length_of(gate, header)
+}
+
+// The bytes of the records behind the gate.
+fn read_body<V: Volume>(alloc: Global, volume: &mut V, gate: u64, len: u32) -> Result<Vec<u8>, StoreFault>
+    requires { IsInRange gate len }
+    ensures bytes { IfOk result (λ body. IsTrue V.tells → Shows (V.content volume.old Area.Log) (gate + BATCH_HEADER) body.items) }
+    ensures len { IfOk result (λ body. vec_len body ≡ len) }
+    ensures damaged { (area : Areas) (at : ℕ) → result ≡ Err (StoreFault.Fault (Fault.Damaged area at)) → ⊥ }
+    ensures cause { (area : Areas) → result ≡ Err (StoreFault.Fault (Fault.Volume area)) → (area ≡ Area.Log) × Rises (V.faults volume.old Area.Log) (V.faults volume.new Area.Log) }
+    ensures reads { OnlyReads (V.content volume.old) (V.content volume.new) (V.may_leave volume.old) (V.may_leave volume.new)
+        (V.moment volume.old) (V.moment volume.new) (V.left_since volume.old) (V.left_since volume.new) (V.faults volume.old) (V.faults volume.new) }
+    ensures data_reads { V.data_reads volume.new ≡ V.data_reads volume.old }
+    ensures same { V.reference volume.new ≡ V.reference volume.old }
+{
+    let mut body = vec![in alloc; 0; len as usize]?;
+    read_log(volume, gate + BATCH_HEADER, body.as_mut_slice())?;
+    Ok(body)
+}
+
+/// Appends the records of the batch behind that gate and answers the next gate; None where the gate is closed.
+pub(crate) fn read_batch<V: Volume>(alloc: Global, volume: &mut V, gate: u64, records: &mut Vec<Logged>) -> Result<Option<u64>, StoreFault>
+    requires { gate ≤ MAX_LOG }
+    ensures found { IfOk result (ReadsGate (IsTrue V.tells) (V.content volume.old Area.Log) gate records.old.items records.new.items) }
+    ensures damaged { (area : Areas) (at : ℕ) → result ≡ Err (StoreFault.Fault (Fault.Damaged area at)) → (area ≡ Area.Log) × (IsTrue V.tells → IsWrongBehind (V.content volume.old Area.Log) gate at) }
+    ensures cause { (area : Areas) → result ≡ Err (StoreFault.Fault (Fault.Volume area)) → (area ≡ Area.Log) × Rises (V.faults volume.old Area.Log) (V.faults volume.new Area.Log) }
+    ensures reads { OnlyReads (V.content volume.old) (V.content volume.new) (V.may_leave volume.old) (V.may_leave volume.new)
+        (V.moment volume.old) (V.moment volume.new) (V.left_since volume.old) (V.left_since volume.new) (V.faults volume.old) (V.faults volume.new) }
+    ensures data_reads { V.data_reads volume.new ≡ V.data_reads volume.old }
+    ensures same { V.reference volume.new ≡ V.reference volume.old }
+{
+    let Some(len) = read_header(volume, gate)? else {
+        return Ok(None);
+    };
+    let body = read_body(alloc, volume, gate, len)?;
+    read_records(alloc, gate + BATCH_HEADER, &body, records)?;
+    Ok(Some(gate + BATCH_HEADER + len as u64))
+}
