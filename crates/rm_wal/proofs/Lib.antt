@@ -1,3 +1,4 @@
 pub mod Crash
 pub mod RecordSteps
 pub mod Batches
+pub mod AttachSteps

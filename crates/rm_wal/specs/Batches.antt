@@ -7,8 +7,8 @@ use Rattle.rm_record.specs.declared.records.LogRecord.{LogRecord}
 use Rattle.rm_record.specs.declared.records.Logged.{Logged}
 use Rattle.rm_record.specs.Records.{spelling, spelling_all, IsRecord}
 use Rattle.rm_history.specs.declared.TheConstants.{BATCH_HEADER}
-use Rattle.rm_history.specs.Logs.{Batch, body_of, IsInRange, IsBatch, HasWrongLength, HasWrongRecord}
-use Rattle.rm_history.specs.Histories.{onto}
+use Rattle.rm_history.specs.Logs.{Batch, gate_of, body_of, IsInRange, IsBatch, AreBatches, Stands, HasWrongLength, HasWrongRecord}
+use Rattle.rm_history.specs.Histories.{onto, history_of}
 
 -- no record's spelling begins the bytes
 pub record BeginsWithNone (bytes : List ℕ) : Type 0 where
@@ -82,3 +82,16 @@ ReadsGate told area gate old new (Some next) = ReadsBatch told area gate next ol
 pub record IsWrongBehind (area : Bytes) (gate at : ℕ) : Type 0 where
   pub begun : area gate ≡ 1
   pub wrong : HasWrongLength area gate at ⊎ HasWrongRecord area gate at
+
+-- the batches before a gate were read, and their records are these, the oldest first
+pub record ReadsBatches (told : Type 0) (area : Bytes) (gate : ℕ) (records : List Logged) : Type 0 where
+  pub batches : List Batch
+  pub are_batches : AreBatches batches
+  pub stands : told → Stands area batches
+  pub gate_is : gate ≡ gate_of batches
+  pub history_is : history_of batches ≡ reverse records
+
+-- these are all batches: the gate behind them is closed
+pub record ReadsAllBatches (told : Type 0) (area : Bytes) (gate : ℕ) (records : List Logged) : Type 0 where
+  pub before : ReadsBatches told area gate records
+  pub closed : told → area gate ≡ 1 → ⊥
