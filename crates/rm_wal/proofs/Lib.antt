@@ -1,4 +1,5 @@
 pub mod Crash
 pub mod RecordSteps
-pub mod Batches
+pub mod BatchSteps
 pub mod AttachSteps
+pub mod LookupSteps

@@ -2,3 +2,4 @@ pub mod Tails
 pub mod Flushing
 pub mod Batches
 pub mod Attaching
+pub mod Lookups

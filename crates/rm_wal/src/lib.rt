@@ -9,6 +9,7 @@
 mod attaching;
 mod flushing;
 mod log;
+mod lookups;
 mod parsing;
 mod reading;
 

@@ -22,8 +22,8 @@ use std::alloc::Global;
 /// The byte of a gate that is open.
 const OPEN: u8 = 1;
 
-/// Fills `into` with the bytes of area Log at that offset.
-pub(crate) fn read_log<V: Volume>(volume: &mut V, at: u64, into: &mut [u8]) -> Result<(), StoreFault>
+// Fills `into` with the bytes of area Log at that offset.
+fn read_log<V: Volume>(volume: &mut V, at: u64, into: &mut [u8]) -> Result<(), StoreFault>
     requires { at + length into.old ≤ 2 ^ 49 }
     ensures bytes { OnOk result (IsTrue V.tells → Shows (V.content volume.old Area.Log) at into.new) }
     ensures cause { (fault : StoreFaults) → result ≡ Err fault → (fault ≡ StoreFault.Fault (Fault.Volume Area.Log)) × Rises (V.faults volume.old Area.Log) (V.faults volume.new Area.Log) }
@@ -36,6 +36,23 @@ pub(crate) fn read_log<V: Volume>(volume: &mut V, at: u64, into: &mut [u8]) -> R
         Ok(()) => Ok(()),
         Err(_) => Err(StoreFault::Fault(Fault::Volume { area: Area::Log })),
     }
+}
+
+/// So many bytes of area Log from that offset on.
+pub(crate) fn read_bytes<V: Volume>(alloc: Global, volume: &mut V, at: u64, count: usize) -> Result<Vec<u8>, StoreFault>
+    requires { at + count ≤ 2 ^ 49 }
+    ensures bytes { IfOk result (λ bytes. IsTrue V.tells → Shows (V.content volume.old Area.Log) at bytes.items) }
+    ensures len { IfOk result (λ bytes. vec_len bytes ≡ count) }
+    ensures damaged { (area : Areas) (place : ℕ) → result ≡ Err (StoreFault.Fault (Fault.Damaged area place)) → ⊥ }
+    ensures cause { (area : Areas) → result ≡ Err (StoreFault.Fault (Fault.Volume area)) → (area ≡ Area.Log) × Rises (V.faults volume.old Area.Log) (V.faults volume.new Area.Log) }
+    ensures reads { OnlyReads (V.content volume.old) (V.content volume.new) (V.may_leave volume.old) (V.may_leave volume.new)
+        (V.moment volume.old) (V.moment volume.new) (V.left_since volume.old) (V.left_since volume.new) (V.faults volume.old) (V.faults volume.new) }
+    ensures data_reads { V.data_reads volume.new ≡ V.data_reads volume.old }
+    ensures same { V.reference volume.new ≡ V.reference volume.old }
+{
+    let mut bytes = vec![in alloc; 0; count]?;
+    read_log(volume, at, bytes.as_mut_slice())?;
+    Ok(bytes)
 }
 
 // Whether so many bytes of records may stand behind the gate.
@@ -85,23 +102,6 @@ fn read_header<V: Volume>(volume: &mut V, gate: u64) -> Result<Option<u32>, Stor
     length_of(gate, header)
 }
 
-// The bytes of the records behind the gate.
-fn read_body<V: Volume>(alloc: Global, volume: &mut V, gate: u64, len: u32) -> Result<Vec<u8>, StoreFault>
-    requires { IsInRange gate len }
-    ensures bytes { IfOk result (λ body. IsTrue V.tells → Shows (V.content volume.old Area.Log) (gate + BATCH_HEADER) body.items) }
-    ensures len { IfOk result (λ body. vec_len body ≡ len) }
-    ensures damaged { (area : Areas) (at : ℕ) → result ≡ Err (StoreFault.Fault (Fault.Damaged area at)) → ⊥ }
-    ensures cause { (area : Areas) → result ≡ Err (StoreFault.Fault (Fault.Volume area)) → (area ≡ Area.Log) × Rises (V.faults volume.old Area.Log) (V.faults volume.new Area.Log) }
-    ensures reads { OnlyReads (V.content volume.old) (V.content volume.new) (V.may_leave volume.old) (V.may_leave volume.new)
-        (V.moment volume.old) (V.moment volume.new) (V.left_since volume.old) (V.left_since volume.new) (V.faults volume.old) (V.faults volume.new) }
-    ensures data_reads { V.data_reads volume.new ≡ V.data_reads volume.old }
-    ensures same { V.reference volume.new ≡ V.reference volume.old }
-{
-    let mut body = vec![in alloc; 0; len as usize]?;
-    read_log(volume, gate + BATCH_HEADER, body.as_mut_slice())?;
-    Ok(body)
-}
-
 /// Appends the records of the batch behind that gate and answers the next gate; None where the gate is closed.
 pub(crate) fn read_batch<V: Volume>(alloc: Global, volume: &mut V, gate: u64, records: &mut Vec<Logged>) -> Result<Option<u64>, StoreFault>
     requires { gate ≤ MAX_LOG }
@@ -116,7 +116,7 @@ pub(crate) fn read_batch<V: Volume>(alloc: Global, volume: &mut V, gate: u64, re
     let Some(len) = read_header(volume, gate)? else {
         return Ok(None);
     };
-    let body = read_body(alloc, volume, gate, len)?;
+    let body = read_bytes(alloc, volume, gate + BATCH_HEADER, len as usize)?;
     read_records(alloc, gate + BATCH_HEADER, &body, records)?;
     Ok(Some(gate + BATCH_HEADER + len as u64))
 }

@@ -1,5 +1,5 @@
 use Rattle.std.proofs.Common.{arith}
-use Rattle.rm_wal.proofs.Batches.{header_is_read, header_is_wrong}
+use Rattle.rm_wal.proofs.BatchSteps.{header_is_read, header_is_wrong}
 use Rattle.rm_wal.proofs.reading.read_header.Goals as goal
 
 pub returns-clause-found : goal.returns-clause-found

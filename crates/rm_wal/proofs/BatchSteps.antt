@@ -66,7 +66,7 @@ batch_is_read {area} {gate} {len} {bytes} opened shown long all =
     }
 
 -- no record stands where the bytes that stand there begin with none
-none_stands : {area : Bytes} {at : ℕ} (rest : List ℕ) → Shows area at rest → BeginsWithNone rest → (next : LogRecord) → IsRecord next → length (spelling next) ≤ length rest → Shows area at (spelling next) → ⊥
+pub none_stands : {area : Bytes} {at : ℕ} (rest : List ℕ) → Shows area at rest → BeginsWithNone rest → (next : LogRecord) → IsRecord next → length (spelling next) ≤ length rest → Shows area at (spelling next) → ⊥
 none_stands {area} {at} rest shown none next is short stands =
     let n = length (spelling next) in
     let cut : take n rest ++ drop n rest ≡ rest = take-append-drop n rest in
