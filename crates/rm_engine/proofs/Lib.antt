@@ -1,3 +1,4 @@
 pub mod Steps
 pub mod Flushes
 pub mod Opened
+pub mod Changed

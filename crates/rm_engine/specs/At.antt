@@ -8,7 +8,7 @@ use Rattle.rm_types.specs.declared.operations.Reply.{Reply}
 use Rattle.rm_types.specs.declared.operations.Reply.TheVariants as reply
 use Rattle.rm_outside.specs.Images.{Image}
 use Rattle.rm_model.specs.Object.{Rows}
-use Rattle.rm_model.specs.Session.{page_at, rows_of, Core}
+use Rattle.rm_model.specs.Session.{page_at, rows_of, set_row, IsPlaceFor, Core}
 use Rattle.rm_record.specs.Records.{spelling_all, IsRecord}
 use Rattle.rm_wal.specs.Tails.{LogValue}
 use Rattle.rm_history.specs.declared.TheConstants.{BATCH_HEADER}
@@ -78,3 +78,17 @@ IsCommitOf core other = ⊥
 -- An image that a turn may leave has the rows from before it, or those of the transaction that it commits too.
 abbrev pub LeftByTurn : ℕ → Rows → Core → Line → Image → Type 0
 LeftByTurn count rows core asked c = Holds count rows c ⊎ (IsCommitOf core asked × Holds (count + 1) (rows_of core.pages) c)
+
+-- the reply tells of no change
+abbrev pub NotChanged : Reply → Type 0
+NotChanged (reply.Began id) = ⊥
+NotChanged (reply.Inserted rid) = ⊥
+NotChanged reply.Committed = ⊥
+NotChanged other = Unit {0}
+
+-- What a line and its reply make of the session.
+abbrev pub Changes : Core → Line → Reply → Core → Type 0
+Changes old line.Begin (reply.Began id) new = (old.active ≡ false) × (new ≡ record old { next = old.next + 1; active = true })
+Changes old (line.Insert name row) (reply.Inserted rid) new = (old.active ≡ true) × IsPlaceFor old.pages (length row) rid × (new ≡ record old { pages = set_row old.pages rid row })
+Changes old line.Commit reply.Committed new = (old.active ≡ true) × (new ≡ record old { active = false })
+Changes old asked told new = NotChanged told × (new ≡ old)
