@@ -2,3 +2,4 @@ pub mod Steps
 pub mod Flushes
 pub mod Opened
 pub mod Changed
+pub mod Leaves

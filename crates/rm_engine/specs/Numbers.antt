@@ -18,9 +18,9 @@ owed_by inserts = OWED + OWED * inserts
 abbrev pub cost_of : ℕ → ℕ
 cost_of len = INSERT_SIZE + len + CHANGE_COST
 
--- the end of the log once a long tail is flushed
-abbrev pub end_flushed : LogValue → ℕ
-end_flushed log = if nat_lt LONG_TAIL (length log.tail) then end_of log + BATCH_HEADER else end_of log
+-- the log once a long tail is flushed
+abbrev pub log_flushed : LogValue → LogValue
+log_flushed log = if nat_lt LONG_TAIL (length log.tail) then record log { batch = end_of log; tail = [] } else log
 
 -- The file, the ids and the log have room for what the session's transaction still does.
 pub record IsReady (core : Core) (log : LogValue) (inserts : ℕ) : Type 0 where
@@ -42,7 +42,7 @@ HasRoom core log inserts line.Commit = core.active ≡ true → length log.tail 
 -- The log has no room for the line's turn, and would end there.
 abbrev pub LacksRoom : Core → LogValue → ℕ → Line → ℕ → Type 0
 LacksRoom core log inserts line.Begin end = (core.active ≡ false) × (core.next < 2 ^ 32) × (end ≡ end_of log) × (log.limit < end + OWED)
-LacksRoom core log inserts (line.Insert name row) end = (core.active ≡ true) × ((page : ℕ) × IsFirstWithRoom core.pages (length row) page) × (end ≡ end_flushed log)
+LacksRoom core log inserts (line.Insert name row) end = (core.active ≡ true) × ((page : ℕ) × IsFirstWithRoom core.pages (length row) page) × (end ≡ end_of (log_flushed log))
     × (log.limit < end + (cost_of (length row) + owed_by (inserts + 1)))
 LacksRoom core log inserts (line.Read target) end = ⊥
 LacksRoom core log inserts line.Commit end = ⊥

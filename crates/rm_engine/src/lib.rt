@@ -2,6 +2,10 @@
 //! once it is durable.
 #![tactic(auto)]
 
+mod engine;
+mod faults;
 mod room;
 
+pub use engine::Engine;
+pub use faults::TurnFault;
 pub use room::{CHANGE_COST, INSERT_SIZE, OWED};

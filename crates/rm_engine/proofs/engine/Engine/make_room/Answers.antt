@@ -1,0 +1,11 @@
+use Rattle.rm_outside.specs.Moments.{started}
+use Rattle.rm_engine.proofs.Flushes.{holds_now}
+use Rattle.rm_engine.proofs.engine.Engine.make_room.Goals as goal
+
+pub returns-in-Begin-clause-any_moment : goal.returns-in-Begin-clause-any_moment
+returns-in-Begin-clause-any_moment g c pages count rows at =
+    started _ _ _ (λ d since. holds_now pages count rows _ _ _ _ _ at d (g.met.V.Volume.only_now c.args.volume.now d since))
+
+pub returns-in-Read-clause-any_moment : goal.returns-in-Read-clause-any_moment
+returns-in-Read-clause-any_moment g c pages count rows at =
+    started _ _ _ (λ d since. holds_now pages count rows _ _ _ _ _ at d (g.met.V.Volume.only_now c.args.volume.now d since))

@@ -1,0 +1,7 @@
+use Rattle.rm_outside.specs.Moments.{started}
+use Rattle.rm_engine.proofs.Flushes.{holds_now}
+use Rattle.rm_engine.proofs.engine.Engine.room_to_commit.Goals as goal
+
+pub returns-then-not-is_active-clause-any_moment : goal.returns-then-not-is_active-clause-any_moment
+returns-then-not-is_active-clause-any_moment g c pages count rows at =
+    started _ _ _ (λ d since. holds_now pages count rows _ _ _ _ _ at d (g.met.V.Volume.only_now c.args.volume.now d since))

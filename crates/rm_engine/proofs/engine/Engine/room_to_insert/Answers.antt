@@ -1,0 +1,15 @@
+use Rattle.rm_outside.specs.Moments.{started}
+use Rattle.rm_engine.proofs.Flushes.{holds_now}
+use Rattle.rm_engine.proofs.engine.Engine.room_to_insert.Goals as goal
+
+pub returns-then-not-is_active-clause-any_moment : goal.returns-then-not-is_active-clause-any_moment
+returns-then-not-is_active-clause-any_moment g c pages count rows at =
+    started _ _ _ (λ d since. holds_now pages count rows _ _ _ _ _ at d (g.met.V.Volume.only_now c.args.volume.now d since))
+
+pub returns-then-is_ok-clause-any_moment : goal.returns-then-is_ok-clause-any_moment
+returns-then-is_ok-clause-any_moment g c pages count rows at =
+    started _ _ _ (λ d since. holds_now pages count rows _ _ _ _ _ at d (g.met.V.Volume.only_now c.args.volume.now d since))
+
+pub returns-then-not-has_place-clause-any_moment : goal.returns-then-not-has_place-clause-any_moment
+returns-then-not-has_place-clause-any_moment g c pages count rows at =
+    started _ _ _ (λ d since. holds_now pages count rows _ _ _ _ _ at d (g.met.V.Volume.only_now c.args.volume.now d since))

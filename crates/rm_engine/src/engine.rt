@@ -1,0 +1,203 @@
+//! The session and its log.
+
+ghost use Rattle.std.specs.Prelude.{◌≡◌, ℕ, ◌+◌, ◌-◌, ◌*◌, ◌^◌, ◌<◌, ◌≤◌, ◌++◌, ◌⊎◌, [], List, length, map, nat_lt, if◌then◌else◌, IfOk, OnOk, Err, true, false};
+ghost use Rattle.rm_types.specs.declared.areas.Area.{Area as Areas};
+ghost use Rattle.rm_types.specs.declared.faults.Fault.{Fault as Faults};
+ghost use Rattle.rm_types.specs.declared.numbers.TheConstants.{MAX_PAGES, MAX_SLOT, MAX_LOG};
+ghost use Rattle.rm_outside.specs.Images.{Image};
+ghost use Rattle.rm_outside.specs.Faults.{Rises};
+ghost use Rattle.rm_outside.specs.Moments.{IsDurable, LeavesOnly};
+ghost use Rattle.rm_model.specs.Object.{Rows};
+ghost use Rattle.rm_types.specs.declared.numbers.TxnId.{TxnId as Txns};
+ghost use Rattle.rm_types.specs.declared.rows.TheConstants.{MAX_ROW};
+ghost use Rattle.rm_model.specs.Session.{IsFirstWithRoom, opened};
+ghost use Rattle.rm_record.specs.Records.{spelling};
+ghost use Rattle.rm_wal.specs.declared.log.TheConstants.{LONG_TAIL};
+ghost use Rattle.rm_wal.specs.Tails.{end_of};
+ghost use Rattle.rm_restart.specs.Sound.{Holds};
+ghost use Rattle.rm_engine.specs.Numbers.{IsReady, HasRoom, LacksRoom, LacksIds, cost_of, owed_by, log_flushed};
+ghost use Rattle.rm_engine.specs.At.{IsAt};
+
+use crate::faults::TurnFault;
+use crate::room::{insert_cost, owed, room_to_begin};
+use rm_outside::Volume;
+use rm_page::Page;
+use rm_session::Session;
+use rm_types::{Area, Fault, Line, Lsn};
+use rm_wal::{LONG_TAIL, Log};
+
+/// One session on a volume: the pages and the transaction, the log, the LSN of the transaction's last
+/// record (0 for none), and how many inserts it has pending.
+#[derive(Debug, Drop)]
+pub struct Engine {
+    pub session: Session,
+    pub log: Log,
+    pub under: Lsn,
+    pub inserts: u64,
+}
+
+impl Engine {
+    /// A session over an opened volume, before its first transaction, which gets the id `next`.
+    pub fn new(pages: Vec<Page>, next: u64, log: Log) -> Engine
+        requires pages { length pages.items ≤ MAX_PAGES }
+        requires next { next ≤ 2 ^ 32 }
+        requires limit { log.limit ≤ MAX_LOG }
+        ensures ready { IsReady result.session.core result.log result.inserts }
+        ensures session { result.session ≡ opened (map (λ page. page.slots) pages.items) next }
+        ensures log { result.log ≡ log }
+        ensures under { result.under.0 ≡ 0 }
+        ensures inserts { result.inserts ≡ 0 }
+    {
+        Engine {
+            session: Session::over(pages, next),
+            log,
+            under: Lsn(0),
+            inserts: 0,
+        }
+    }
+
+    /// Flushes the tail, if it is long.
+    pub(crate) fn flush_long<V: Volume>(&mut self, volume: &mut V) -> Result<(), Fault>
+        requires ready { IsReady self.old.session.core self.old.log self.old.inserts }
+        requires durable { IsDurable Area.Log (V.content volume.old) (V.may_leave volume.old) }
+
+        ensures session { self.new.session ≡ self.old.session }
+        ensures under { self.new.under ≡ self.old.under }
+        ensures inserts { self.new.inserts ≡ self.old.inserts }
+        ensures log { OnOk result (self.new.log ≡ log_flushed self.old.log) }
+        ensures durable { OnOk result (IsDurable Area.Log (V.content volume.new) (V.may_leave volume.new)) }
+
+        ensures at { OnOk result ((pages count : ℕ) (rows : Rows)
+            → IsAt pages count rows self.old.session.core self.old.log self.old.under.0 self.old.inserts (V.may_leave volume.old)
+            → IsAt pages count rows self.old.session.core (log_flushed self.old.log) self.old.under.0 self.old.inserts (V.may_leave volume.new)) }
+        ensures any_moment { (pages count : ℕ) (rows : Rows)
+            → IsAt pages count rows self.old.session.core self.old.log self.old.under.0 self.old.inserts (V.may_leave volume.old)
+            → LeavesOnly (V.moment volume.old) (V.moment volume.new) (V.left_since volume.old) (V.left_since volume.new) (Holds count rows) }
+
+        ensures cause { (fault : Faults) → result ≡ Err fault → (fault ≡ Fault.Volume Area.Log) × Rises (V.faults volume.old Area.Log) (V.faults volume.new Area.Log) }
+        ensures counts { (area : Areas) → V.faults volume.old area ≤ V.faults volume.new area }
+        ensures data_reads { V.data_reads volume.new ≡ V.data_reads volume.old }
+        ensures same { V.reference volume.new ≡ V.reference volume.old }
+    {
+        if self.log.tail() <= LONG_TAIL {
+            return Ok(());
+        }
+        self.log.flush(volume)?;
+        Ok(())
+    }
+
+    /// Makes room for the record of an insert of so many bytes, if there is a place for it.
+    fn room_to_insert<V: Volume>(&mut self, volume: &mut V, len: usize) -> Result<(), TurnFault>
+        requires len { len ≤ MAX_ROW }
+        requires ready { IsReady self.old.session.core self.old.log self.old.inserts }
+        requires durable { IsDurable Area.Log (V.content volume.old) (V.may_leave volume.old) }
+
+        ensures room { OnOk result (self.old.session.core.active ≡ true → (page : ℕ) → IsFirstWithRoom self.old.session.core.pages len page
+            → (end_of self.new.log + (cost_of len + owed_by (self.old.inserts + 1)) ≤ self.new.log.limit) × (length self.new.log.tail ≤ LONG_TAIL)) }
+        ensures exact { OnOk result (self.old.session.core.active ≡ true → (page : ℕ) → IsFirstWithRoom self.old.session.core.pages len page
+            → end_of (log_flushed self.old.log) + (cost_of len + owed_by (self.old.inserts + 1)) ≤ self.old.log.limit) }
+        ensures full { (end : ℕ) → result ≡ Err (TurnFault.LogFull end) → (self.old.session.core.active ≡ true) × ((page : ℕ) × IsFirstWithRoom self.old.session.core.pages len page)
+            × (end ≡ end_of (log_flushed self.old.log)) × (self.old.log.limit < end + (cost_of len + owed_by (self.old.inserts + 1))) }
+        ensures spent { (last : Txns) → result ≡ Err (TurnFault.TxnsSpent last) → ⊥ }
+
+        ensures session { self.new.session ≡ self.old.session }
+        ensures under { self.new.under ≡ self.old.under }
+        ensures inserts { self.new.inserts ≡ self.old.inserts }
+        ensures ready { OnOk result (IsReady self.old.session.core self.new.log self.old.inserts) }
+        ensures durable { OnOk result (IsDurable Area.Log (V.content volume.new) (V.may_leave volume.new)) }
+        ensures at { OnOk result ((pages count : ℕ) (rows : Rows)
+            → IsAt pages count rows self.old.session.core self.old.log self.old.under.0 self.old.inserts (V.may_leave volume.old)
+            → IsAt pages count rows self.old.session.core self.new.log self.old.under.0 self.old.inserts (V.may_leave volume.new)) }
+        ensures any_moment { (pages count : ℕ) (rows : Rows)
+            → IsAt pages count rows self.old.session.core self.old.log self.old.under.0 self.old.inserts (V.may_leave volume.old)
+            → LeavesOnly (V.moment volume.old) (V.moment volume.new) (V.left_since volume.old) (V.left_since volume.new) (Holds count rows) }
+
+        ensures cause { (fault : Faults) → result ≡ Err (TurnFault.Fault fault) → (fault ≡ Fault.Volume Area.Log) × Rises (V.faults volume.old Area.Log) (V.faults volume.new Area.Log) }
+        ensures counts { (area : Areas) → V.faults volume.old area ≤ V.faults volume.new area }
+        ensures data_reads { V.data_reads volume.new ≡ V.data_reads volume.old }
+        ensures same { V.reference volume.new ≡ V.reference volume.old }
+    {
+        if !self.session.is_active() {
+            return Ok(());
+        }
+        let (cost, owed) = (insert_cost(len), owed(self.inserts + 1));
+        if self.log.tail() <= LONG_TAIL && self.log.room(cost, owed).is_ok() {
+            return Ok(());
+        }
+        if !self.session.has_place(len) {
+            return Ok(());
+        }
+        self.flush_long(volume)?;
+        self.log.room(cost, owed)?;
+        Ok(())
+    }
+
+    /// Makes room for a commit's record.
+    fn room_to_commit<V: Volume>(&mut self, volume: &mut V) -> Result<(), TurnFault>
+        requires ready { IsReady self.old.session.core self.old.log self.old.inserts }
+        requires durable { IsDurable Area.Log (V.content volume.old) (V.may_leave volume.old) }
+
+        ensures room { OnOk result (self.old.session.core.active ≡ true → length self.new.log.tail ≤ LONG_TAIL) }
+        ensures full { (end : ℕ) → result ≡ Err (TurnFault.LogFull end) → ⊥ }
+        ensures spent { (last : Txns) → result ≡ Err (TurnFault.TxnsSpent last) → ⊥ }
+
+        ensures session { self.new.session ≡ self.old.session }
+        ensures under { self.new.under ≡ self.old.under }
+        ensures inserts { self.new.inserts ≡ self.old.inserts }
+        ensures ready { OnOk result (IsReady self.old.session.core self.new.log self.old.inserts) }
+        ensures durable { OnOk result (IsDurable Area.Log (V.content volume.new) (V.may_leave volume.new)) }
+        ensures at { OnOk result ((pages count : ℕ) (rows : Rows)
+            → IsAt pages count rows self.old.session.core self.old.log self.old.under.0 self.old.inserts (V.may_leave volume.old)
+            → IsAt pages count rows self.old.session.core self.new.log self.old.under.0 self.old.inserts (V.may_leave volume.new)) }
+        ensures any_moment { (pages count : ℕ) (rows : Rows)
+            → IsAt pages count rows self.old.session.core self.old.log self.old.under.0 self.old.inserts (V.may_leave volume.old)
+            → LeavesOnly (V.moment volume.old) (V.moment volume.new) (V.left_since volume.old) (V.left_since volume.new) (Holds count rows) }
+
+        ensures cause { (fault : Faults) → result ≡ Err (TurnFault.Fault fault) → (fault ≡ Fault.Volume Area.Log) × Rises (V.faults volume.old Area.Log) (V.faults volume.new Area.Log) }
+        ensures counts { (area : Areas) → V.faults volume.old area ≤ V.faults volume.new area }
+        ensures data_reads { V.data_reads volume.new ≡ V.data_reads volume.old }
+        ensures same { V.reference volume.new ≡ V.reference volume.old }
+    {
+        if !self.session.is_active() {
+            return Ok(());
+        }
+        self.flush_long(volume)?;
+        Ok(())
+    }
+
+    /// Makes room for the line's turn: flushes a long tail where the turn logs a record, and refuses the turn
+    /// where ids or the log's room are spent.
+    fn make_room<V: Volume>(&mut self, volume: &mut V, line: &Line) -> Result<(), TurnFault>
+        requires ready { IsReady self.old.session.core self.old.log self.old.inserts }
+        requires durable { IsDurable Area.Log (V.content volume.old) (V.may_leave volume.old) }
+
+        ensures room { OnOk result (HasRoom self.old.session.core self.new.log self.old.inserts line.now) }
+        ensures exact { OnOk result ((end : ℕ) → LacksRoom self.old.session.core self.old.log self.old.inserts line.now end → ⊥) }
+        ensures full { (end : ℕ) → result ≡ Err (TurnFault.LogFull end) → LacksRoom self.old.session.core self.old.log self.old.inserts line.now end }
+        ensures spent { (last : Txns) → result ≡ Err (TurnFault.TxnsSpent last) → LacksIds self.old.session.core line.now last }
+
+        ensures session { self.new.session ≡ self.old.session }
+        ensures under { self.new.under ≡ self.old.under }
+        ensures inserts { self.new.inserts ≡ self.old.inserts }
+        ensures ready { OnOk result (IsReady self.old.session.core self.new.log self.old.inserts) }
+        ensures durable { OnOk result (IsDurable Area.Log (V.content volume.new) (V.may_leave volume.new)) }
+        ensures at { OnOk result ((pages count : ℕ) (rows : Rows)
+            → IsAt pages count rows self.old.session.core self.old.log self.old.under.0 self.old.inserts (V.may_leave volume.old)
+            → IsAt pages count rows self.old.session.core self.new.log self.old.under.0 self.old.inserts (V.may_leave volume.new)) }
+        ensures any_moment { (pages count : ℕ) (rows : Rows)
+            → IsAt pages count rows self.old.session.core self.old.log self.old.under.0 self.old.inserts (V.may_leave volume.old)
+            → LeavesOnly (V.moment volume.old) (V.moment volume.new) (V.left_since volume.old) (V.left_since volume.new) (Holds count rows) }
+
+        ensures cause { (fault : Faults) → result ≡ Err (TurnFault.Fault fault) → (fault ≡ Fault.Volume Area.Log) × Rises (V.faults volume.old Area.Log) (V.faults volume.new Area.Log) }
+        ensures counts { (area : Areas) → V.faults volume.old area ≤ V.faults volume.new area }
+        ensures data_reads { V.data_reads volume.new ≡ V.data_reads volume.old }
+        ensures same { V.reference volume.new ≡ V.reference volume.old }
+    {
+        match line {
+            Line::Begin => room_to_begin(&self.session, &self.log, self.inserts),
+            Line::Insert(_, row) => self.room_to_insert(volume, row.as_slice().len()),
+            Line::Read(_) => Ok(()),
+            Line::Commit => self.room_to_commit(volume),
+        }
+    }
+}

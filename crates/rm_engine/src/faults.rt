@@ -1,0 +1,43 @@
+//! Why a turn was not made.
+
+ghost use Rattle.std.specs.Prelude.{◌≡◌};
+ghost use Rattle.rm_engine.specs.declared.faults.TurnFault.TheVariants.{Fault as turn_fault, LogFull as log_full, NoMemory as no_memory};
+
+use rm_types::{Fault, NoMemory, TxnId};
+use rm_wal::LogFull;
+
+/// Why a turn was not made. The session ends there.
+#[derive(Clone, Copy, Debug, PartialEq, Eq)]
+pub enum TurnFault {
+    /// The volume failed. It is to be opened again.
+    Fault(Fault),
+    /// The log has no room for the turn; it would go on at `end`.
+    LogFull { end: u64 },
+    /// Every id was given; `last` was the last.
+    TxnsSpent { last: TxnId },
+    NoMemory,
+}
+
+impl From<Fault> for TurnFault {
+    ghost from_gives = { λ fault turn. turn ≡ turn_fault fault };
+
+    fn from(fault: Fault) -> TurnFault {
+        TurnFault::Fault(fault)
+    }
+}
+
+impl From<LogFull> for TurnFault {
+    ghost from_gives = { λ full turn. turn ≡ log_full full.end };
+
+    fn from(full: LogFull) -> TurnFault {
+        TurnFault::LogFull { end: full.end }
+    }
+}
+
+impl From<NoMemory> for TurnFault {
+    ghost from_gives = { λ _ turn. turn ≡ no_memory };
+
+    fn from(_e: NoMemory) -> TurnFault {
+        TurnFault::NoMemory
+    }
+}
