@@ -1,4 +1,3 @@
-pub mod Stretches
 pub mod SlotLemmas
 pub mod Clearing
 pub mod Writing

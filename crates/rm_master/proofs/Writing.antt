@@ -4,7 +4,7 @@ use Rattle.std.proofs.lemmas.Bool.{cases_eq}
 use Rattle.rm_types.specs.declared.areas.Area.TheVariants.{Master}
 use Rattle.rm_types.specs.declared.numbers.TheConstants.{MAX_PAGES}
 use Rattle.rm_outside.specs.Images.{Bytes, Image, Shows, Torn}
-use Rattle.rm_outside.specs.Moments.{Follows}
+use Rattle.rm_outside.specs.Moments.{Follows, IsDurable}
 use Rattle.rm_master.specs.declared.fields.Fields.{Fields}
 use Rattle.rm_master.specs.declared.fields.TheConstants.{MADE, MADE_AT, PARITY_AT}
 use Rattle.rm_master.specs.Fields.{IsFields, slot_bytes, fresh_fields}
@@ -83,22 +83,10 @@ parity_goes slot fields next old new small rules torn stands shown = elim (cases
     at_slot : Shows (old Master) (slot_at slot) (slot_bytes fields)
     at_slot = let P : ℕ → Type 0 = λ n. Shows (old Master) (slot_at n) (slot_bytes fields) in subst P stands.is_current stands.has.slot
 
--- the parity byte that names the next slot
-pub parity_stands : (slot : ℕ) (fields next : Fields) (old new : Image) → slot < 2 → IsFields next → Torn Master PARITY_AT ((1 - slot) ∷ []) old new → Stands slot fields (old Master)
-    → Shows (old Master) (slot_at (1 - slot)) (slot_bytes next) → new Master PARITY_AT ≡ 1 - slot → Stands (1 - slot) next (new Master)
-parity_stands slot fields next old new small rules torn stands shown parity =
-    let is : current (new Master) ≡ 1 - slot = ap (λ n. n % 2) parity ∙ mod_small (1 - slot) (omega arith) in
-    record {
-      is_current = is;
-      has = record {
-        made = torn.before MADE_AT (omega arith) ∙ stands.has.made;
-        rules = rules;
-        slot = (named_slot (1 - slot) (new Master) next rules is (slot_kept (1 - slot) _ old new _ torn shown)).slot;
-      };
-    }
-  where
-    mod_small : (n : ℕ) → n < 2 → n % 2 ≡ n
-    mod_small n small = omega arith
+-- a master that was read stands in each image, where its area is durable
+pub stands_in_each : (slot : ℕ) (fields : Fields) (told : Type 0) (content : Image) (may_leave : Image → Type 0) → IsDurable Master content may_leave → ((c : Image) → may_leave c → told)
+    → (told → Stands slot fields (content Master)) → (c : Image) → may_leave c → Stands slot fields (c Master)
+stands_in_each slot fields told content may_leave durable tells stands c left = subst (Stands slot fields) (sym (durable.each c left)) (stands (tells c left))
 
 -- the images of a master's write
 module _ (slot : ℕ) (fields next : Fields) (small : slot < 2) (rules : IsFields next) (old mid : Image → Type 0) (stand : (c : Image) → old c → Stands slot fields (c Master)) where

@@ -1,6 +1,6 @@
 //! The calls on a volume, with errors that name the area.
 
-ghost use Rattle.std.specs.Prelude.{◌≡◌, ℕ, ◌≤◌, IsTrue, length, OnOk, OnErr, IfErr};
+ghost use Rattle.std.specs.Prelude.{◌≡◌, ◌≤◌, IsTrue, length, OnOk, IfErr};
 ghost use Rattle.rm_types.specs.declared.areas.Area.{Area};
 ghost use Rattle.rm_outside.specs.Faults.{Rises};
 ghost use Rattle.rm_outside.specs.Areas.{CanReach};

@@ -3,11 +3,11 @@
 //! The made byte is the last thing written, behind a sync of all else: until then each image is one
 //! of a volume that is not made, and from then on each is a volume without rows.
 
-ghost use Rattle.std.specs.Prelude.{◌≡◌, ◌≢◌, ℕ, ◌+◌, ◌*◌, ◌<◌, ◌≤◌, ◌⊎◌, IsTrue, IsErr, length, get_or, OnOk, OnErr, IfErr, [], ◌∷◌};
+ghost use Rattle.std.specs.Prelude.{◌≡◌, ℕ, ◌+◌, ◌*◌, ◌<◌, ◌≤◌, ◌⊎◌, IsTrue, length, get_or, OnOk, IfErr, [], ◌∷◌};
 ghost use Rattle.rm_types.specs.declared.areas.Area.{Area};
-ghost use Rattle.rm_outside.specs.Areas.{is_blocked, last_block};
-ghost use Rattle.rm_outside.specs.Images.{Image, Shows, Torn};
-ghost use Rattle.rm_outside.specs.Moments.{AddsNone, Follows, LeavesOnly};
+ghost use Rattle.rm_outside.specs.Areas.{last_block};
+ghost use Rattle.rm_outside.specs.Images.{Image, Torn};
+ghost use Rattle.rm_outside.specs.Moments.{Follows, LeavesOnly};
 ghost use Rattle.rm_master.specs.Faults.{IsVolumeFault};
 ghost use Rattle.rm_master.specs.Steps.{After, KeepsOthers, KeepsMaster, KeepsMadeByte};
 ghost use Rattle.rm_master.specs.Fields.{fresh_fields};

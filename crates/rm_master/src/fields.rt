@@ -1,7 +1,7 @@
 //! The fields of the master, and the bytes of its slots.
 
 ghost use Rattle.std.specs.Prelude.{◌≡◌, ◌↔◌, IsTrue};
-ghost use Rattle.rm_master.specs.Fields.{IsFields, KeepFileRules, KeepCheckpointRules, KeepCopyRules, slot_bytes, fresh_fields};
+ghost use Rattle.rm_master.specs.Fields.{IsFields, KeepFileRules, KeepCheckpointRules, KeepCopyRules, fresh_fields};
 
 use rm_types::{MAX_LOG, MAX_PAGES};
 

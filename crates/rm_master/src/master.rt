@@ -21,7 +21,7 @@ pub struct Master {
 }
 
 impl Master {
-    ghost use Rattle.std.specs.Prelude.{◌≡◌, ◌≢◌, ℕ, ◌≤◌, ◌⊎◌, IsTrue, IsErr, IfOk, IfErr, OnOk, OnErr};
+    ghost use Rattle.std.specs.Prelude.{◌≡◌, ◌≢◌, ◌≤◌, ◌⊎◌, IsTrue, IfOk, IfErr, OnOk, OnErr};
     ghost use Rattle.rm_types.specs.declared.areas.Area.{Area};
     ghost use Rattle.rm_types.specs.declared.areas.Area.TheVariants.{Master as master_area};
     ghost use Rattle.rm_outside.specs.Faults.{Rises};

@@ -1,6 +1,6 @@
 //! The slots of the master.
 
-ghost use Rattle.std.specs.Prelude.{◌≡◌, ℕ, ◌<◌, ◌≤◌, [], ◌∷◌, IsTrue, IfOk, OnOk, IfErr, IfSome, IfNone};
+ghost use Rattle.std.specs.Prelude.{◌≡◌, ◌<◌, ◌≤◌, [], ◌∷◌, IsTrue, IfOk, OnOk, IfErr, IfSome, IfNone};
 ghost use Rattle.rm_types.specs.declared.areas.Area.{Area};
 ghost use Rattle.rm_outside.specs.Faults.{Rises};
 ghost use Rattle.rm_outside.specs.Images.{Image, Shows, Torn};
