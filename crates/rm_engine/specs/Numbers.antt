@@ -1,10 +1,13 @@
 -- The numbers of log room: what a transaction owes, and what a turn costs.
-use Rattle.std.specs.Prelude.{◌≡◌, ℕ, ◌+◌, ◌-◌, ◌*◌, ◌^◌, ◌≤◌, ◌<◌, nat_lt, if◌then◌else◌, Bool, true, false, List, [], length}
+use Rattle.std.specs.Prelude.{◌≡◌, ℕ, ◌++◌, ◌+◌, ◌-◌, ◌*◌, ◌^◌, ◌≤◌, ◌<◌, nat_lt, if◌then◌else◌, Bool, true, false, List, [], length}
 use Rattle.rm_types.specs.declared.numbers.TxnId.{TxnId}
-use Rattle.rm_types.specs.declared.numbers.TheConstants.{MAX_PAGES, MAX_LOG}
+use Rattle.rm_types.specs.declared.numbers.TheConstants.{MAX_PAGES, MAX_LOG, MAX_SLOT}
+use Rattle.rm_types.specs.declared.numbers.Rid.{Rid}
 use Rattle.rm_types.specs.declared.lines.Line.{Line}
 use Rattle.rm_types.specs.declared.lines.Line.TheVariants as line
 use Rattle.rm_history.specs.declared.TheConstants.{BATCH_HEADER}
+use Rattle.rm_record.specs.declared.records.LogRecord.{LogRecord}
+use Rattle.rm_record.specs.Records.{spelling}
 use Rattle.rm_wal.specs.declared.log.TheConstants.{LONG_TAIL}
 use Rattle.rm_wal.specs.Tails.{LogValue, end_of}
 use Rattle.rm_model.specs.Session.{IsFirstWithRoom, Core}
@@ -53,3 +56,20 @@ LacksIds core line.Begin last = (core.active ≡ false) × (core.next ≡ 2 ^ 32
 LacksIds core (line.Insert name row) last = ⊥
 LacksIds core (line.Read target) last = ⊥
 LacksIds core line.Commit last = ⊥
+
+-- The row id is a place of a file of the most pages.
+pub record IsPlace (rid : Rid) : Type 0 where
+  pub page : rid.page < MAX_PAGES
+  pub slot : rid.slot ≤ MAX_SLOT
+
+-- the transaction that the session has
+abbrev pub txn_of_next : ℕ → TxnId
+txn_of_next next = record { 0 = next - 1 }
+
+-- the log with one record more in its tail
+abbrev pub with_record : LogValue → LogRecord → LogValue
+with_record log next = record log { tail = log.tail ++ spelling next }
+
+-- the log whose tail was flushed
+abbrev pub without_tail : LogValue → LogValue
+without_tail log = record log { batch = end_of log; tail = [] }

@@ -4,6 +4,7 @@
 
 mod engine;
 mod faults;
+mod logging;
 mod room;
 
 pub use engine::Engine;

@@ -1,6 +1,6 @@
 //! The bytes of a row.
 
-ghost use Rattle.std.specs.Prelude.{◌≡◌, ◌≤◌, length, replicate, IfOk};
+ghost use Rattle.std.specs.Prelude.{◌≡◌, ℕ, ◌<◌, ◌≤◌, length, slice_index, replicate, IfOk};
 
 use crate::memory::NoMemory;
 use std::alloc::Global;
@@ -38,7 +38,8 @@ impl Row {
     /// A row of these bytes, copied.
     pub fn from_slice(alloc: Global, bytes: &[u8]) -> Result<Row, NoMemory>
         requires { length bytes.now ≤ MAX_ROW }
-        ensures { IfOk result (λ row. row ≡ bytes.now) }
+        ensures value { IfOk result (λ row. row ≡ bytes.now) }
+        ensures bytes { (i : ℕ) → slice_index bytes.now i < 256 }
     {
         Ok(Row::new(Vec::from_slice(alloc, bytes)?))
     }
@@ -61,7 +62,8 @@ impl Row {
 
     /// A row of the same bytes.
     pub fn try_clone(&self) -> Result<Row, NoMemory>
-        ensures { IfOk result (λ row. row ≡ self.now) }
+        ensures value { IfOk result (λ row. row ≡ self.now) }
+        ensures bytes { (i : ℕ) → slice_index self.now i < 256 }
     {
         Row::from_slice(*self.bytes.allocator(), self.bytes.as_slice())
     }
