@@ -3,3 +3,4 @@ pub mod Flushes
 pub mod Opened
 pub mod Changed
 pub mod Leaves
+pub mod Kept

@@ -28,6 +28,7 @@ log_flushed log = if nat_lt LONG_TAIL (length log.tail) then record log { batch 
 -- The file, the ids and the log have room for what the session's transaction still does.
 pub record IsReady (core : Core) (log : LogValue) (inserts : ℕ) : Type 0 where
   pub pages : length core.pages ≤ MAX_PAGES
+  pub first : 1 ≤ core.next
   pub ids : core.next ≤ 2 ^ 32
   pub limit : log.limit ≤ MAX_LOG
   pub began : core.active ≡ true → 1 < core.next

@@ -10,21 +10,23 @@ ghost use Rattle.rm_outside.specs.Moments.{IsDurable, LeavesOnly};
 ghost use Rattle.rm_model.specs.Object.{Rows};
 ghost use Rattle.rm_types.specs.declared.numbers.TxnId.{TxnId as Txns};
 ghost use Rattle.rm_types.specs.declared.rows.TheConstants.{MAX_ROW};
-ghost use Rattle.rm_model.specs.Session.{IsFirstWithRoom, opened};
+ghost use Rattle.rm_model.specs.Session.{Core, IsFirstWithRoom, rows_of, opened};
 ghost use Rattle.rm_record.specs.Records.{spelling};
 ghost use Rattle.rm_wal.specs.declared.log.TheConstants.{LONG_TAIL};
 ghost use Rattle.rm_wal.specs.Tails.{end_of};
 ghost use Rattle.rm_restart.specs.Sound.{Holds};
 ghost use Rattle.rm_engine.specs.Numbers.{IsReady, HasRoom, LacksRoom, LacksIds, cost_of, owed_by, log_flushed};
-ghost use Rattle.rm_engine.specs.At.{IsAt};
+ghost use Rattle.rm_engine.specs.At.{IsAt, Changes, LeftByTurn, count_after, committed_after};
 
 use crate::faults::TurnFault;
+use crate::logging::{log_commit, log_insert};
 use crate::room::{insert_cost, owed, room_to_begin};
 use rm_outside::Volume;
 use rm_page::Page;
 use rm_session::Session;
-use rm_types::{Area, Fault, Line, Lsn};
+use rm_types::{Area, Fault, Line, Lsn, Reply};
 use rm_wal::{LONG_TAIL, Log};
+use std::snapshot::Snapshot;
 
 /// One session on a volume: the pages and the transaction, the log, the LSN of the transaction's last
 /// record (0 for none), and how many inserts it has pending.
@@ -40,6 +42,7 @@ impl Engine {
     /// A session over an opened volume, before its first transaction, which gets the id `next`.
     pub fn new(pages: Vec<Page>, next: u64, log: Log) -> Engine
         requires pages { length pages.items ≤ MAX_PAGES }
+        requires first { 1 ≤ next }
         requires next { next ≤ 2 ^ 32 }
         requires limit { log.limit ≤ MAX_LOG }
         ensures ready { IsReady result.session.core result.log result.inserts }
@@ -198,6 +201,57 @@ impl Engine {
             Line::Insert(_, row) => self.room_to_insert(volume, row.as_slice().len()),
             Line::Read(_) => Ok(()),
             Line::Commit => self.room_to_commit(volume),
+        }
+    }
+
+    /// Keeps what the line and its reply changed: notes a begin, logs an insert, logs a commit and makes it durable.
+    fn keep<V: Volume>(
+        &mut self,
+        volume: &mut V,
+        line: &Line,
+        reply: &Reply,
+        before: &Snapshot<Session>,
+    ) -> Result<(), TurnFault>
+        requires changed { Changes before.now.value.core line.now reply.now self.old.session.core }
+        requires ready { IsReady before.now.value.core self.old.log self.old.inserts }
+        requires room { HasRoom before.now.value.core self.old.log self.old.inserts line.now }
+        requires durable { IsDurable Area.Log (V.content volume.old) (V.may_leave volume.old) }
+
+        ensures session { self.new.session ≡ self.old.session }
+        ensures ready { OnOk result (IsReady self.new.session.core self.new.log self.new.inserts) }
+        ensures durable { OnOk result (IsDurable Area.Log (V.content volume.new) (V.may_leave volume.new)) }
+        ensures at { OnOk result ((pages count : ℕ) (rows : Rows)
+            → IsAt pages count rows before.now.value.core self.old.log self.old.under.0 self.old.inserts (V.may_leave volume.old)
+            → IsAt pages (count_after reply.now count) (committed_after reply.now (rows_of before.now.value.core.pages) rows) self.new.session.core self.new.log self.new.under.0 self.new.inserts (V.may_leave volume.new)) }
+        ensures any_moment { (pages count : ℕ) (rows : Rows)
+            → IsAt pages count rows before.now.value.core self.old.log self.old.under.0 self.old.inserts (V.may_leave volume.old)
+            → LeavesOnly (V.moment volume.old) (V.moment volume.new) (V.left_since volume.old) (V.left_since volume.new) (LeftByTurn count rows before.now.value.core line.now) }
+
+        ensures full { (end : ℕ) → result ≡ Err (TurnFault.LogFull end) → ⊥ }
+        ensures spent { (last : Txns) → result ≡ Err (TurnFault.TxnsSpent last) → ⊥ }
+        ensures cause { (fault : Faults) → result ≡ Err (TurnFault.Fault fault) → (fault ≡ Fault.Volume Area.Log) × Rises (V.faults volume.old Area.Log) (V.faults volume.new Area.Log) }
+        ensures counts { (area : Areas) → V.faults volume.old area ≤ V.faults volume.new area }
+        ensures data_reads { V.data_reads volume.new ≡ V.data_reads volume.old }
+        ensures same { V.reference volume.new ≡ V.reference volume.old }
+    {
+        let _ = before;
+        match (line, reply) {
+            (Line::Begin, Reply::Began(_)) => {
+                self.under = Lsn(0);
+                self.inserts = 0;
+                Ok(())
+            }
+            (Line::Insert(_, row), Reply::Inserted(rid)) => {
+                let lsn = log_insert(&mut self.log, self.session.next(), self.under, *rid, row)?;
+                self.under = lsn;
+                self.inserts += 1;
+                Ok(())
+            }
+            (Line::Commit, Reply::Committed) => {
+                log_commit(&mut self.log, volume, self.session.next())?;
+                Ok(())
+            }
+            _ => Ok(()),
         }
     }
 }
