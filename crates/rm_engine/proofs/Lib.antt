@@ -4,3 +4,4 @@ pub mod Opened
 pub mod Changed
 pub mod Leaves
 pub mod Kept
+pub mod Turned

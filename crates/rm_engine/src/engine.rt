@@ -10,7 +10,7 @@ ghost use Rattle.rm_outside.specs.Moments.{IsDurable, LeavesOnly};
 ghost use Rattle.rm_model.specs.Object.{Rows};
 ghost use Rattle.rm_types.specs.declared.numbers.TxnId.{TxnId as Txns};
 ghost use Rattle.rm_types.specs.declared.rows.TheConstants.{MAX_ROW};
-ghost use Rattle.rm_model.specs.Session.{Core, IsFirstWithRoom, rows_of, opened};
+ghost use Rattle.rm_model.specs.Session.{Core, IsFirstWithRoom, Step, rows_of, opened};
 ghost use Rattle.rm_record.specs.Records.{spelling};
 ghost use Rattle.rm_wal.specs.declared.log.TheConstants.{LONG_TAIL};
 ghost use Rattle.rm_wal.specs.Tails.{end_of};
@@ -253,5 +253,48 @@ impl Engine {
             }
             _ => Ok(()),
         }
+    }
+
+    /// Does a line, and answers its reply. What the line changed is in the log, and a commit is durable, before
+    /// the reply is given.
+    ///
+    /// # Errors
+    ///
+    /// [`TurnFault::TxnsSpent`] exactly where a transaction would begin and every id was given.
+    /// [`TurnFault::LogFull`] exactly where the line would change something for which the log has no room.
+    /// [`TurnFault::Fault`] with area Log, where it failed. [`TurnFault::NoMemory`]. After an error the session has
+    /// ended, and the volume is to be opened again.
+    pub fn turn<V: Volume>(&mut self, volume: &mut V, line: &Line) -> Result<Reply, TurnFault>
+        requires ready { IsReady self.old.session.core self.old.log self.old.inserts }
+        requires durable { IsDurable Area.Log (V.content volume.old) (V.may_leave volume.old) }
+
+        // The session makes a step.
+        ensures step { IfOk result (λ reply. Step self.old.session line.now reply self.new.session) }
+        ensures ready { OnOk result (IsReady self.new.session.core self.new.log self.new.inserts) }
+        ensures durable { OnOk result (IsDurable Area.Log (V.content volume.new) (V.may_leave volume.new)) }
+
+        // After a commit each image that a crash may leave has the transaction; and after every other reply what it had.
+        ensures at { IfOk result (λ reply. (pages count : ℕ) (rows : Rows)
+            → IsAt pages count rows self.old.session.core self.old.log self.old.under.0 self.old.inserts (V.may_leave volume.old)
+            → IsAt pages (count_after reply count) (committed_after reply (rows_of self.old.session.core.pages) rows) self.new.session.core self.new.log self.new.under.0 self.new.inserts (V.may_leave volume.new)) }
+        // A crash at any moment of the turn leaves what was committed, and maybe the transaction that the line commits.
+        ensures any_moment { (pages count : ℕ) (rows : Rows)
+            → IsAt pages count rows self.old.session.core self.old.log self.old.under.0 self.old.inserts (V.may_leave volume.old)
+            → LeavesOnly (V.moment volume.old) (V.moment volume.new) (V.left_since volume.old) (V.left_since volume.new) (LeftByTurn count rows self.old.session.core line.now) }
+
+        ensures room { OnOk result ((end : ℕ) → LacksRoom self.old.session.core self.old.log self.old.inserts line.now end → ⊥) }
+        ensures full { (end : ℕ) → result ≡ Err (TurnFault.LogFull end) → LacksRoom self.old.session.core self.old.log self.old.inserts line.now end }
+        ensures spent { (last : Txns) → result ≡ Err (TurnFault.TxnsSpent last) → LacksIds self.old.session.core line.now last }
+        ensures cause { (fault : Faults) → result ≡ Err (TurnFault.Fault fault) → (fault ≡ Fault.Volume Area.Log) × Rises (V.faults volume.old Area.Log) (V.faults volume.new Area.Log) }
+        ensures counts { (area : Areas) → V.faults volume.old area ≤ V.faults volume.new area }
+        ensures data_reads { V.data_reads volume.new ≡ V.data_reads volume.old }
+        ensures same { V.reference volume.new ≡ V.reference volume.old }
+    {
+        self.make_room(volume, line)?;
+        let before = Snapshot::of(&self.session);
+        let lsn = Lsn(self.log.end());
+        let reply = self.session.turn(line, lsn)?;
+        self.keep(volume, line, &reply, &before)?;
+        Ok(reply)
     }
 }

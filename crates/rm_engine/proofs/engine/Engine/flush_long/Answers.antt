@@ -33,8 +33,8 @@ returns-clause-at g c pages count rows at =
     let some : 0 < length c.args.self.now.log.tail = omega arith in
     let active = active_of_tail pages count rows _ _ _ _ _ at some in
     let log_is : cond (ltb LONG_TAIL (length c.args.self.now.log.tail)) (record c.args.self.now.log { batch = end_of c.args.self.now.log; tail = [] }) c.args.self.now.log ≡ record c.args.self.now.log { batch = end_of c.args.self.now.log; tail = [] } =
-        ap (λ b. cond b (record c.args.self.now.log { batch = end_of c.args.self.now.log; tail = [] }) c.args.self.now.log) (lt-ltb LONG_TAIL (length c.args.self.now.log.tail) long) in
+    ap (λ b. cond b (record c.args.self.now.log { batch = end_of c.args.self.now.log; tail = [] }) c.args.self.now.log) (lt-ltb LONG_TAIL (length c.args.self.now.log.tail) long) in
     subst (λ (log : LogValue). IsAt pages count rows c.args.self.now.session.core log c.args.self.now.under.0 c.args.self.now.inserts (g.V.Volume.may_leave c.flush.new.volume)) (sym log_is)
     (at_flushed pages count rows _ _ _ _ _ at c.requires.ready active some (g.V.Volume.may_leave c.flush.new.volume)
-        (c.in_ok-flush.ensures.logs_ok _ _ (tails pages count rows _ _ _ _ _ at) some)
-        (λ d now. (c.in_ok-flush.ensures.flushed some d now).1))
+    (c.in_ok-flush.ensures.logs_ok _ _ (tails pages count rows _ _ _ _ _ at) some)
+    (λ d now. (c.in_ok-flush.ensures.flushed some d now).1))

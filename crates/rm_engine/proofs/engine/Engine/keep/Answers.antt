@@ -22,7 +22,7 @@ returns-in-Begin-Began-clause-ready g c =
     let b = c.in-Begin-Began in
     let changed = changes_at c.args.before.now.value.core _ _ _ _ _ b.is-0 b.is-1 c.requires.changed in
     let room : (c.args.before.now.value.core.next < 2 ^ 32) × (end_of c.args.self.now.log + OWED ≤ c.args.self.now.log.limit) =
-        subst (λ (l : Line). HasRoom c.args.before.now.value.core c.args.self.now.log c.args.self.now.inserts l) b.is-0 c.requires.room changed.0 in
+    subst (λ (l : Line). HasRoom c.args.before.now.value.core c.args.self.now.log c.args.self.now.inserts l) b.is-0 c.requires.room changed.0 in
     subst (λ (core : Core). IsReady core c.args.self.now.log 0) (sym changed.1) (record {
       pages = c.requires.ready.pages;
       first = omega arith;
@@ -61,7 +61,7 @@ returns-in_ok-lsn-in-Insert-Inserted-clause-at g c pages count rows at =
     let next : c.next.result ≡ c.args.before.now.value.core.next = c.next.ensures ∙ ap (λ (core : Core). core.next) changed.2 in
     at_known pages count rows (rows_of c.args.before.now.value.core.pages) _ _ _ _ c.in_ok-lsn-in-Insert-Inserted.lsn.0 _ _ _ _ changed.2 c.in_ok-lsn-in-Insert-Inserted.ensures.ok b.is-1
     (at_inserted pages count rows c.args.before.now.value.core _ _ _ _ at c.in_ok-lsn-in-Insert-Inserted.lsn (txn_of_next c.next.result) c.args.self.now.under b.rid b.row changed.0 changed.1 (ap (λ (n : ℕ). n - 1) next) refl (c.requires.ready.first)
-        c.in_ok-lsn-in-Insert-Inserted.ensures.lsn c.in_ok-lsn-in-Insert-Inserted.ensures.is_record)
+    c.in_ok-lsn-in-Insert-Inserted.ensures.lsn c.in_ok-lsn-in-Insert-Inserted.ensures.is_record)
 
 -- a commit
 
@@ -74,7 +74,7 @@ returns-in_err-log_commit-in-Commit-Committed-clause-any_moment g c pages count 
     let txn_is = ap (λ (n : ℕ). n - 1) next in
     weaker (both (c.log_commit.ensures.logs _ _ (tails_closing pages count rows _ _ _ _ _ at txn changed.0 txn_is c.requires.ready.first c.requires.ready c.log_commit.ensures.is_record)) c.log_commit.ensures.any_moment)
     (λ d each. left_by_commit count rows c.args.before.now.value.core _ d b.is-0 changed.0
-        (holds_in_commit pages count rows _ _ _ _ _ at txn changed.0 txn_is c.requires.ready.first c.requires.ready c.log_commit.ensures.is_record d each.0 each.1))
+    (holds_in_commit pages count rows _ _ _ _ _ at txn changed.0 txn_is c.requires.ready.first c.requires.ready c.log_commit.ensures.is_record d each.0 each.1))
 
 pub returns-in_ok-log_commit-in-Commit-Committed-clause-any_moment : goal.returns-in_ok-log_commit-in-Commit-Committed-clause-any_moment
 returns-in_ok-log_commit-in-Commit-Committed-clause-any_moment g c pages count rows at =
@@ -85,7 +85,7 @@ returns-in_ok-log_commit-in-Commit-Committed-clause-any_moment g c pages count r
     let txn_is = ap (λ (n : ℕ). n - 1) next in
     weaker (both (c.log_commit.ensures.logs _ _ (tails_closing pages count rows _ _ _ _ _ at txn changed.0 txn_is c.requires.ready.first c.requires.ready c.log_commit.ensures.is_record)) c.log_commit.ensures.any_moment)
     (λ d each. left_by_commit count rows c.args.before.now.value.core _ d b.is-0 changed.0
-        (holds_in_commit pages count rows _ _ _ _ _ at txn changed.0 txn_is c.requires.ready.first c.requires.ready c.log_commit.ensures.is_record d each.0 each.1))
+    (holds_in_commit pages count rows _ _ _ _ _ at txn changed.0 txn_is c.requires.ready.first c.requires.ready c.log_commit.ensures.is_record d each.0 each.1))
 
 pub returns-in_ok-log_commit-in-Commit-Committed-clause-at : goal.returns-in_ok-log_commit-in-Commit-Committed-clause-at
 returns-in_ok-log_commit-in-Commit-Committed-clause-at g c pages count rows at =
@@ -98,7 +98,7 @@ returns-in_ok-log_commit-in-Commit-Committed-clause-at g c pages count rows at =
     let tails = tails_closing pages count rows _ _ _ _ _ at txn changed.0 txn_is c.requires.ready.first c.requires.ready c.log_commit.ensures.is_record in
     at_known pages count rows (rows_of c.args.before.now.value.core.pages) _ _ _ _ c.args.self.now.under.0 c.args.self.now.inserts _ _ _ changed.1 done.log b.is-1
     (at_committed pages count rows c.args.before.now.value.core _ _ _ _ at txn changed.0 txn_is c.requires.ready.first c.requires.ready c.log_commit.ensures.is_record
-        (g.V.Volume.may_leave c.log_commit.new.volume) (done.logs_ok _ _ tails) done.comes)
+    (g.V.Volume.may_leave c.log_commit.new.volume) (done.logs_ok _ _ tails) done.comes)
 
 -- any other reply
 

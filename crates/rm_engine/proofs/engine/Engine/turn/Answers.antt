@@ -1,0 +1,26 @@
+use Rattle.std.proofs.Common.{◌≡◌, ◌∙◌, inl}
+use Rattle.rm_outside.specs.Moments.{weaker}
+use Rattle.rm_engine.proofs.Turned.{at_renamed, left_by_parts}
+use Rattle.rm_engine.proofs.engine.Engine.turn.Goals as goal
+
+pub returns-in_err-make_room-clause-any_moment : goal.returns-in_err-make_room-clause-any_moment
+returns-in_err-make_room-clause-any_moment g c pages count rows at = weaker (c.make_room.ensures.any_moment pages count rows at) (λ d holds. inl holds)
+
+pub returns-in_err-reply-clause-any_moment : goal.returns-in_err-reply-clause-any_moment
+returns-in_err-reply-clause-any_moment g c pages count rows at = weaker (c.make_room.ensures.any_moment pages count rows at) (λ d holds. inl holds)
+
+pub returns-in_err-keep-clause-any_moment : goal.returns-in_err-keep-clause-any_moment
+returns-in_err-keep-clause-any_moment g c pages count rows at =
+    let room = c.make_room.ensures in
+    let same : c.of-before.result.value ≡ c.args.self.now.session = c.of-before.ensures ∙ room.session in
+    let now = at_renamed pages count rows c.args.self.now.session c.of-before.result.value c.make_room.new.self.log c.args.self.now.under c.make_room.new.self.under c.args.self.now.inserts c.make_room.new.self.inserts
+    (g.V.Volume.may_leave c.make_room.new.volume) same room.under room.inserts (c.in_ok-make_room.ensures.at pages count rows at) in
+    left_by_parts count rows c.args.self.now.session c.of-before.result.value c.args.line.now same (room.any_moment pages count rows at) (c.keep.ensures.any_moment pages count rows now)
+
+pub returns-clause-any_moment : goal.returns-clause-any_moment
+returns-clause-any_moment g c pages count rows at =
+    let room = c.make_room.ensures in
+    let same : c.of-before.result.value ≡ c.args.self.now.session = c.of-before.ensures ∙ room.session in
+    let now = at_renamed pages count rows c.args.self.now.session c.of-before.result.value c.make_room.new.self.log c.args.self.now.under c.make_room.new.self.under c.args.self.now.inserts c.make_room.new.self.inserts
+    (g.V.Volume.may_leave c.make_room.new.volume) same room.under room.inserts (c.in_ok-make_room.ensures.at pages count rows at) in
+    left_by_parts count rows c.args.self.now.session c.of-before.result.value c.args.line.now same (room.any_moment pages count rows at) (c.keep.ensures.any_moment pages count rows now)
