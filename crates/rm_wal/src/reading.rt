@@ -12,7 +12,7 @@ ghost use Rattle.rm_history.specs.declared.TheConstants.{BATCH_HEADER};
 ghost use Rattle.rm_history.specs.Logs.{IsInRange};
 ghost use Rattle.rm_wal.specs.Batches.{IsOutOfRange, IsWrongBehind, ReadsHeader, ReadsGate};
 
-use crate::parsing::read_records;
+use crate::parsing::{damaged, read_records};
 use rm_history::{BATCH_HEADER, MAX_BATCH};
 use rm_outside::Volume;
 use rm_record::Logged;
@@ -39,7 +39,12 @@ fn read_log<V: Volume>(volume: &mut V, at: u64, into: &mut [u8]) -> Result<(), S
 }
 
 /// So many bytes of area Log from that offset on.
-pub(crate) fn read_bytes<V: Volume>(alloc: Global, volume: &mut V, at: u64, count: usize) -> Result<Vec<u8>, StoreFault>
+pub(crate) fn read_bytes<V: Volume>(
+    alloc: Global,
+    volume: &mut V,
+    at: u64,
+    count: usize,
+) -> Result<Vec<u8>, StoreFault>
     requires { at + count ≤ 2 ^ 49 }
     ensures bytes { IfOk result (λ bytes. IsTrue V.tells → Shows (V.content volume.old Area.Log) at bytes.items) }
     ensures len { IfOk result (λ bytes. vec_len bytes ≡ count) }
@@ -78,10 +83,7 @@ fn length_of(gate: u64, header: [u8; 5]) -> Result<Option<u32>, StoreFault>
     }
     let len = u32::from_be_bytes([a, b, c, d]);
     if !is_in_range(gate, len) {
-        return Err(StoreFault::Fault(Fault::Damaged {
-            area: Area::Log,
-            at: gate + 1,
-        }));
+        return Err(damaged(gate + 1));
     }
     Ok(Some(len))
 }
@@ -103,7 +105,12 @@ fn read_header<V: Volume>(volume: &mut V, gate: u64) -> Result<Option<u32>, Stor
 }
 
 /// Appends the records of the batch behind that gate and answers the next gate; None where the gate is closed.
-pub(crate) fn read_batch<V: Volume>(alloc: Global, volume: &mut V, gate: u64, records: &mut Vec<Logged>) -> Result<Option<u64>, StoreFault>
+pub(crate) fn read_batch<V: Volume>(
+    alloc: Global,
+    volume: &mut V,
+    gate: u64,
+    records: &mut Vec<Logged>,
+) -> Result<Option<u64>, StoreFault>
     requires { gate ≤ MAX_LOG }
     ensures found { IfOk result (ReadsGate (IsTrue V.tells) (V.content volume.old Area.Log) gate records.old.items records.new.items) }
     ensures damaged { (area : Areas) (at : ℕ) → result ≡ Err (StoreFault.Fault (Fault.Damaged area at)) → (area ≡ Area.Log) × (IsTrue V.tells → IsWrongBehind (V.content volume.old Area.Log) gate at) }
