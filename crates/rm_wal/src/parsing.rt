@@ -56,8 +56,8 @@ fn read_record(
     Ok(size)
 }
 
-#[tactic(auto, using(crate::proofs::RecordSteps::reads_no_record, crate::proofs::RecordSteps::reads_to_end, crate::proofs::RecordSteps::stops_there))]
 /// Appends the records whose spellings are the bytes; the first has the LSN `base`. What an error leaves is no log.
+#[tactic(auto, using(crate::proofs::RecordSteps::reads_no_record, crate::proofs::RecordSteps::reads_to_end, crate::proofs::RecordSteps::stops_there))]
 pub(crate) fn read_records(
     alloc: Global,
     base: u64,
