@@ -22,6 +22,9 @@ use std::alloc::Global;
 /// The byte of a gate that is open.
 const OPEN: u8 = 1;
 
+/// How many bytes stand before a batch's records: the gate byte and the length.
+const HEADER: usize = BATCH_HEADER as usize;
+
 // Fills `into` with the bytes of area Log at that offset.
 fn read_log<V: Volume>(volume: &mut V, at: u64, into: &mut [u8]) -> Result<(), StoreFault>
     requires { at + length into.old ≤ 2 ^ 49 }
@@ -70,7 +73,7 @@ fn is_in_range(gate: u64, len: u32) -> bool
 }
 
 // The length of the batch's records, None where the gate is closed.
-fn length_of(gate: u64, header: [u8; 5]) -> Result<Option<u32>, StoreFault>
+fn length_of(gate: u64, header: [u8; HEADER]) -> Result<Option<u32>, StoreFault>
     requires { gate ≤ MAX_LOG }
     ensures closed { result ≡ Ok None → slice_index header 0 ≡ 1 → ⊥ }
     ensures opened { IfOk result (λ found. IfSome found (λ len. IsInRange gate len × (header ≡ 1 ∷ to_be_bytes w32 len))) }
@@ -99,7 +102,7 @@ fn read_header<V: Volume>(volume: &mut V, gate: u64) -> Result<Option<u32>, Stor
     ensures data_reads { V.data_reads volume.new ≡ V.data_reads volume.old }
     ensures same { V.reference volume.new ≡ V.reference volume.old }
 {
-    let mut header = [0; BATCH_HEADER as usize];
+    let mut header = [0; HEADER];
     read_log(volume, gate, &mut header)?;
     length_of(gate, header)
 }
