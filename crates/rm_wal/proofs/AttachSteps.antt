@@ -1,10 +1,10 @@
 -- Batches that are read one after another.
-use Rattle.std.proofs.Common.{◌≡◌, ℕ, ◌+◌, ◌≤◌, List, [], ◌∷◌, reverse, refl, sym, ap, subst, ◌∙◌, arith}
+use Rattle.std.proofs.Common.{◌≡◌, ℕ, ◌+◌, ◌≤◌, List, [], ◌∷◌, refl, sym, ap, subst, ◌∙◌, arith}
 use Rattle.rm_types.specs.declared.numbers.TheConstants.{MAX_LOG}
 use Rattle.rm_outside.specs.Images.{Bytes, Shows}
 use Rattle.rm_record.specs.declared.records.Logged.{Logged}
 use Rattle.rm_history.specs.declared.TheConstants.{BATCH_HEADER}
-use Rattle.rm_history.specs.Logs.{Batch, gate_of, body_of, IsBatch, AreBatches, Stands, IsDamagedAt}
+use Rattle.rm_history.specs.Logs.{gate_of, body_of, IsBatch, IsDamagedAt}
 use Rattle.rm_history.specs.Histories.{History, onto, history_of}
 use Rattle.rm_wal.specs.Batches.{ReadsBatch, ReadsBatches, IsWrongBehind}
 
@@ -28,7 +28,7 @@ reads_next_batch {told} {area} {gate} {next} {old} {new} before one =
       );
       gate_is = omega (arith, one.next_is, at);
       history_is = ap (λ (n : ℕ). onto (history_of before.batches) (n + BATCH_HEADER) one.batch) (sym at)
-      ∙ ap (λ (h : History). onto h (gate + BATCH_HEADER) one.batch) before.history_is ∙ sym one.onto_is;
+          ∙ ap (λ (h : History). onto h (gate + BATCH_HEADER) one.batch) before.history_is ∙ sym one.onto_is;
     }
 
 -- the next gate is behind this one

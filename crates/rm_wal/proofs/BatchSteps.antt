@@ -1,5 +1,5 @@
 -- What stands behind a gate, from what was read of it.
-use Rattle.std.proofs.Common.{◌≡◌, ℕ, ◌+◌, ◌<◌, ◌≤◌, List, [], ◌∷◌, ◌++◌, length, Option, Some, None, IfSome, Result, Ok, Err, IfOk, get_or, take, drop, reverse, inl, inr, refl, sym, ap, subst, ◌∙◌, arith, length-append, append_assoc}
+use Rattle.std.proofs.Common.{◌≡◌, ℕ, ◌+◌, ◌<◌, ◌≤◌, List, [], ◌∷◌, ◌++◌, length, Option, Some, None, IfSome, Result, Ok, Err, IfOk, get_or, take, drop, inl, inr, refl, sym, ap, subst, ◌∙◌, arith, length-append}
 use Rattle.std.proofs.lemmas.List.{take-append-drop, length-take}
 use Rattle.std.specs.Int.{to_be_bytes, w32}
 use Rattle.rm_types.specs.declared.faults.StoreFault.{StoreFault}
@@ -7,11 +7,10 @@ use Rattle.rm_types.specs.declared.areas.Area.TheVariants.{Log}
 use Rattle.rm_outside.specs.Images.{Image, Bytes, Shows}
 use Rattle.rm_outside.proofs.ShowsLemmas.{shows_front, shows_back, shows_both, shows_once}
 use Rattle.rm_record.specs.declared.records.LogRecord.{LogRecord}
-use Rattle.rm_record.specs.declared.records.Logged.{Logged}
 use Rattle.rm_record.specs.Records.{spelling, spelling_all, IsRecord}
 use Rattle.rm_history.specs.declared.TheConstants.{BATCH_HEADER}
-use Rattle.rm_history.specs.Logs.{Batch, body_of, IsInRange, IsBatch, HasWrongLength, HasWrongRecord}
-use Rattle.rm_wal.specs.Batches.{BeginsWithNone, ReadsAll, StopsAt, IsOutOfRange, IsOpen, ReadsHeader, ReadsBatch, IsWrongBehind}
+use Rattle.rm_history.specs.Logs.{IsInRange}
+use Rattle.rm_wal.specs.Batches.{BeginsWithNone, StopsAt, IsOutOfRange, IsOpen, ReadsHeader, IsWrongBehind}
 
 -- the gate and the length, of the header that stands there
 shows_header : {area : Bytes} {gate : ℕ} (len : ℕ) → Shows area gate (1 ∷ to_be_bytes w32 len) → (area gate ≡ 1) × Shows area (gate + 1) (to_be_bytes w32 len)
@@ -48,22 +47,6 @@ shows_body : {area : Bytes} (gate len : ℕ) {bytes : List ℕ} → Shows area (
 shows_body {area} gate len {bytes} front back =
     let here : gate + BATCH_HEADER ≡ (gate + 1) + 4 = omega arith in
     shows_both (to_be_bytes w32 len) bytes front (subst (λ (at : ℕ). Shows area at bytes) here back)
-
-pub batch_is_read : {area : Bytes} {gate len : ℕ} {bytes : List ℕ} {old new : List Logged} {told : Type 0} → IsOpen told area gate len → (told → Shows area (gate + BATCH_HEADER) bytes) → length bytes ≡ len
-    → ReadsAll (gate + BATCH_HEADER) bytes old new → ReadsBatch told area gate (gate + BATCH_HEADER + len) old new
-batch_is_read {area} {gate} {len} {bytes} opened shown long all =
-    let lengths : length (spelling_all all.batch) ≡ len = sym (ap length all.spelled) ∙ long in
-    record {
-      batch = all.batch;
-      is = record { records = all.are; range = subst (IsInRange gate) (sym lengths) opened.range };
-      shown = λ tells. (
-        (opened.shown tells).0,
-        subst (λ (n : ℕ). Shows area (gate + 1) (to_be_bytes w32 n ++ spelling_all all.batch)) (sym lengths)
-        (subst (λ (l : List ℕ). Shows area (gate + 1) (to_be_bytes w32 len ++ l)) all.spelled (shows_body gate len (opened.shown tells).1 (shown tells))),
-      );
-      next_is = omega (arith, lengths);
-      onto_is = all.onto_is;
-    }
 
 -- no record stands where the bytes that stand there begin with none
 pub none_stands : {area : Bytes} {at : ℕ} (rest : List ℕ) → Shows area at rest → BeginsWithNone rest → (next : LogRecord) → IsRecord next → length (spelling next) ≤ length rest → Shows area at (spelling next) → ⊥

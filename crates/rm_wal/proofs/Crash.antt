@@ -1,9 +1,9 @@
 -- What a crash leaves in each of the two steps of a flush.
-use Rattle.std.proofs.Common.{◌≡◌, ℕ, ◌+◌, ◌≤◌, List, [], ◌∷◌, length, inl, inr, Result, Ok, Err, OnOk, refl, sym, ap, ◌∙◌, arith}
+use Rattle.std.proofs.Common.{◌≡◌, ℕ, ◌+◌, List, [], ◌∷◌, inl, inr, Result, Ok, Err, OnOk, refl, ap, ◌∙◌, arith}
 use Rattle.rm_types.specs.declared.areas.Area.TheVariants.{Log}
 use Rattle.rm_outside.specs.Images.{Image, Shows, Torn}
-use Rattle.rm_outside.specs.Moments.{Follows, AddsNone, IsDurable}
-use Rattle.rm_wal.specs.Flushing.{FlushStep, ComesByFlush, IsFlushed}
+use Rattle.rm_outside.specs.Moments.{Follows, IsDurable}
+use Rattle.rm_wal.specs.Flushing.{ComesByFlush, IsFlushed}
 
 -- it comes by the flush, and what was written stands behind the gate
 pub record IsStaged (gate : ℕ) (written : List ℕ) (left : Image → Type 0) (c : Image) : Type 0 where

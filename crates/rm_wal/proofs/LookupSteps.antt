@@ -1,5 +1,5 @@
 -- Which record stands where bytes were read.
-use Rattle.std.proofs.Common.{◌≡◌, ℕ, ◌+◌, ◌≤◌, List, ◌∷◌, ◌++◌, length, subst, sym, ◌∙◌, arith}
+use Rattle.std.proofs.Common.{◌≡◌, ℕ, ◌≤◌, List, ◌++◌, length, subst, sym, ◌∙◌, arith}
 use Rattle.rm_outside.specs.Images.{Bytes, Shows}
 use Rattle.rm_outside.proofs.ShowsLemmas.{shows_front}
 use Rattle.rm_record.specs.declared.records.LogRecord.{LogRecord}

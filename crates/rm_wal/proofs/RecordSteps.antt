@@ -1,5 +1,5 @@
 -- Records that are read one after another.
-use Rattle.std.proofs.Common.{◌≡◌, ℕ, ◌+◌, ◌<◌, ◌≤◌, List, [], ◌∷◌, ◌++◌, length, drop, reverse, refl, sym, ap, ◌∙◌, arith, length-append, append_assoc, add-zero}
+use Rattle.std.proofs.Common.{◌≡◌, ℕ, ◌+◌, ◌<◌, List, [], ◌∷◌, ◌++◌, length, drop, reverse, refl, sym, ap, ◌∙◌, arith, length-append, append_assoc, add-zero}
 use Rattle.std.proofs.lemmas.List.{append-nil, reverse-append}
 use Rattle.std.specs.List.{AllByRecursion}
 use Rattle.rm_record.specs.declared.records.LogRecord.{LogRecord}
@@ -32,11 +32,11 @@ reads_one_more {base} {at} {size} {bytes} {rest} {old} {mid} {new} some one =
       front = some.front ++ one.what ∷ [];
       are = are-snoc some.front one.what some.are one.is;
       cut = some.cut ∙ ap (λ (l : List ℕ). spelling_all some.front ++ l) one.cut ∙ sym (append_assoc (spelling_all some.front) (spelling one.what) (drop size rest))
-      ∙ ap (λ (l : List ℕ). l ++ drop size rest) (sym spelled);
+          ∙ ap (λ (l : List ℕ). l ++ drop size rest) (sym spelled);
       place = omega (arith, some.place, one.size_is, ap length spelled, length-append (spelling_all some.front) (spelling one.what));
       onto_is = ap reverse one.added ∙ reverse-append mid (here ∷ []) ∙ ap (λ (l : List Logged). here ∷ l) some.onto_is
-      ∙ ap (λ (n : ℕ). let logged : Logged = record { lsn = record { 0 = n }; what = one.what } in logged ∷ onto (reverse old) base some.front) some.place
-      ∙ sym (onto-snoc (reverse old) base some.front one.what);
+          ∙ ap (λ (n : ℕ). let logged : Logged = record { lsn = record { 0 = n }; what = one.what } in logged ∷ onto (reverse old) base some.front) some.place
+          ∙ sym (onto-snoc (reverse old) base some.front one.what);
     }
 
 -- and then nothing is left

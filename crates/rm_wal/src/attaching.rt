@@ -51,7 +51,11 @@ impl Log {
     /// [`Fault::Damaged`] with area Log: behind an open gate, the offset of a length that is out of range, or else of the
     /// first place within the length at which no record stands. [`Fault::Volume`] with area Log, where it failed.
     /// [`StoreFault::NoMemory`].
-    pub fn attach<V: Volume>(alloc: Global, volume: &mut V, limit: u64) -> Result<Attached, StoreFault>
+    pub fn attach<V: Volume>(
+        alloc: Global,
+        volume: &mut V,
+        limit: u64,
+    ) -> Result<Attached, StoreFault>
         requires { limit ≤ MAX_LOG }
         ensures attached { IfOk result (λ attached. Attaches (IsTrue V.tells) (V.content volume.old Area.Log) limit attached.log attached.records.items) }
         ensures damaged { (area : Areas) (at : ℕ) → result ≡ Err (StoreFault.Fault (Fault.Damaged area at)) → (area ≡ Area.Log) × (IsTrue V.tells → IsDamagedAt (V.content volume.old Area.Log) at) }

@@ -3,7 +3,8 @@
 //!
 //! A [`Log`] is its tail, which is the bytes of the records that are not durable yet, and the offset of
 //! the gate that they will stand behind. That gate stays closed until the tail is durable behind it, so
-//! a crash at any moment leaves the log as it was before a flush, or with the whole tail.
+//! a crash at any moment leaves the log as it was before a flush, or with the whole tail. What is read
+//! back, whole or a record at a time, is exactly what stands in the area, or the first place that is wrong.
 #![tactic(auto)]
 
 mod attaching;
@@ -15,3 +16,6 @@ mod reading;
 
 pub use attaching::Attached;
 pub use log::{LONG_TAIL, Log, LogFull};
+
+#[cfg(test)]
+mod tests;

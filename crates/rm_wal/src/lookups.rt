@@ -11,7 +11,7 @@ ghost use Rattle.rm_wal.specs.Lookups.{HasNoneAt, StandsInTail, HasNoneInTail};
 ghost use Rattle.rm_wal.specs.Tails.{end_of};
 
 use crate::log::Log;
-use crate::parsing::decode_at;
+use crate::parsing::{damaged, decode_at};
 use crate::reading::read_bytes;
 use rm_history::BATCH_HEADER;
 use rm_outside::Volume;
@@ -48,10 +48,7 @@ impl Log {
     {
         let first = self.batch() + BATCH_HEADER;
         if at < first {
-            return Err(StoreFault::Fault(Fault::Damaged {
-                area: Area::Log,
-                at,
-            }));
+            return Err(damaged(at));
         }
         let bytes = self.tail_bytes().split_at((at - first) as usize).1;
         let (found, _) = decode_at(alloc, at, bytes)?;
@@ -65,7 +62,12 @@ impl Log {
     ///
     /// [`Fault::Damaged`] with area Log and the LSN: no record stands there. [`Fault::Volume`] with area Log, where it
     /// failed. [`StoreFault::NoMemory`].
-    pub fn at<V: Volume>(&self, alloc: Global, volume: &mut V, lsn: Lsn) -> Result<LogRecord, StoreFault>
+    pub fn at<V: Volume>(
+        &self,
+        alloc: Global,
+        volume: &mut V,
+        lsn: Lsn,
+    ) -> Result<LogRecord, StoreFault>
         requires { lsn.0 < end_of self.now }
         ensures is_record { IfOk result (λ found. IsRecord found) }
         ensures durable { IfOk result (λ found. lsn.0 < self.now.batch → IsTrue V.tells → Shows (V.content volume.old Area.Log) lsn.0 (spelling found)) }

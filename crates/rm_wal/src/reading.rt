@@ -12,7 +12,7 @@ ghost use Rattle.rm_history.specs.declared.TheConstants.{BATCH_HEADER};
 ghost use Rattle.rm_history.specs.Logs.{IsInRange};
 ghost use Rattle.rm_wal.specs.Batches.{IsOutOfRange, IsWrongBehind, ReadsHeader, ReadsGate};
 
-use crate::parsing::read_records;
+use crate::parsing::{damaged, read_records};
 use rm_history::{BATCH_HEADER, MAX_BATCH};
 use rm_outside::Volume;
 use rm_record::Logged;
@@ -21,6 +21,9 @@ use std::alloc::Global;
 
 /// The byte of a gate that is open.
 const OPEN: u8 = 1;
+
+/// How many bytes stand before a batch's records: the gate byte and the length.
+const HEADER: usize = BATCH_HEADER as usize;
 
 // Fills `into` with the bytes of area Log at that offset.
 fn read_log<V: Volume>(volume: &mut V, at: u64, into: &mut [u8]) -> Result<(), StoreFault>
@@ -39,7 +42,12 @@ fn read_log<V: Volume>(volume: &mut V, at: u64, into: &mut [u8]) -> Result<(), S
 }
 
 /// So many bytes of area Log from that offset on.
-pub(crate) fn read_bytes<V: Volume>(alloc: Global, volume: &mut V, at: u64, count: usize) -> Result<Vec<u8>, StoreFault>
+pub(crate) fn read_bytes<V: Volume>(
+    alloc: Global,
+    volume: &mut V,
+    at: u64,
+    count: usize,
+) -> Result<Vec<u8>, StoreFault>
     requires { at + count ≤ 2 ^ 49 }
     ensures bytes { IfOk result (λ bytes. IsTrue V.tells → Shows (V.content volume.old Area.Log) at bytes.items) }
     ensures len { IfOk result (λ bytes. vec_len bytes ≡ count) }
@@ -65,7 +73,7 @@ fn is_in_range(gate: u64, len: u32) -> bool
 }
 
 // The length of the batch's records, None where the gate is closed.
-fn length_of(gate: u64, header: [u8; 5]) -> Result<Option<u32>, StoreFault>
+fn length_of(gate: u64, header: [u8; HEADER]) -> Result<Option<u32>, StoreFault>
     requires { gate ≤ MAX_LOG }
     ensures closed { result ≡ Ok None → slice_index header 0 ≡ 1 → ⊥ }
     ensures opened { IfOk result (λ found. IfSome found (λ len. IsInRange gate len × (header ≡ 1 ∷ to_be_bytes w32 len))) }
@@ -78,10 +86,7 @@ fn length_of(gate: u64, header: [u8; 5]) -> Result<Option<u32>, StoreFault>
     }
     let len = u32::from_be_bytes([a, b, c, d]);
     if !is_in_range(gate, len) {
-        return Err(StoreFault::Fault(Fault::Damaged {
-            area: Area::Log,
-            at: gate + 1,
-        }));
+        return Err(damaged(gate + 1));
     }
     Ok(Some(len))
 }
@@ -97,13 +102,18 @@ fn read_header<V: Volume>(volume: &mut V, gate: u64) -> Result<Option<u32>, Stor
     ensures data_reads { V.data_reads volume.new ≡ V.data_reads volume.old }
     ensures same { V.reference volume.new ≡ V.reference volume.old }
 {
-    let mut header = [0; BATCH_HEADER as usize];
+    let mut header = [0; HEADER];
     read_log(volume, gate, &mut header)?;
     length_of(gate, header)
 }
 
 /// Appends the records of the batch behind that gate and answers the next gate; None where the gate is closed.
-pub(crate) fn read_batch<V: Volume>(alloc: Global, volume: &mut V, gate: u64, records: &mut Vec<Logged>) -> Result<Option<u64>, StoreFault>
+pub(crate) fn read_batch<V: Volume>(
+    alloc: Global,
+    volume: &mut V,
+    gate: u64,
+    records: &mut Vec<Logged>,
+) -> Result<Option<u64>, StoreFault>
     requires { gate ≤ MAX_LOG }
     ensures found { IfOk result (ReadsGate (IsTrue V.tells) (V.content volume.old Area.Log) gate records.old.items records.new.items) }
     ensures damaged { (area : Areas) (at : ℕ) → result ≡ Err (StoreFault.Fault (Fault.Damaged area at)) → (area ≡ Area.Log) × (IsTrue V.tells → IsWrongBehind (V.content volume.old Area.Log) gate at) }

@@ -1,7 +1,6 @@
-use Rattle.std.proofs.Common.{◌≤◌, IsTrue, subst, sym, arith}
+use Rattle.std.proofs.Common.{IsTrue, subst, arith}
 use Rattle.std.proofs.lemmas.Result.{err_from_is_err_and}
 use Rattle.rm_types.specs.declared.areas.Area.TheVariants.{Log}
-use Rattle.rm_types.specs.declared.numbers.TheConstants.{MAX_LOG}
 use Rattle.rm_outside.specs.Images.{Image}
 use Rattle.rm_outside.specs.Reading.{reads_none, reads_then}
 use Rattle.rm_wal.specs.Batches.{ReadsBatch, IsWrongBehind}

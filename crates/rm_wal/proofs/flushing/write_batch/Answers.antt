@@ -1,7 +1,4 @@
-use Rattle.std.proofs.Common.{◌∷◌, []}
-use Rattle.rm_outside.specs.Images.{Image}
-use Rattle.rm_outside.specs.Moments.{LeavesOnly, started, goes_on}
-use Rattle.rm_wal.specs.Flushing.{ComesByFlush, IsFlushed}
+use Rattle.rm_outside.specs.Moments.{started, goes_on}
 use Rattle.rm_wal.proofs.Crash.{not_begun, first_write, first_sync, second_write, second_sync, map_ok}
 use Rattle.rm_wal.proofs.flushing.write_batch.Goals as goal
 

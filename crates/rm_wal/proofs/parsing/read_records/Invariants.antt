@@ -1,4 +1,4 @@
-use Rattle.std.proofs.Common.{ℕ, length}
+use Rattle.std.proofs.Common.{length}
 use Rattle.rm_wal.specs.Batches.{ReadsSome}
 use Rattle.rm_wal.proofs.parsing.read_records.Given as goal
 

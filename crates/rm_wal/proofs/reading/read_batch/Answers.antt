@@ -1,4 +1,4 @@
-use Rattle.std.proofs.Common.{◌≡◌, ◌∙◌, arith, length}
+use Rattle.std.proofs.Common.{◌≡◌, ◌∙◌, length}
 use Rattle.std.proofs.lemmas.Result.{err_from_is_err_and}
 use Rattle.rm_wal.proofs.BatchSteps.{shows_before, batch_is_wrong}
 use Rattle.rm_wal.proofs.reading.read_batch.Goals as goal
