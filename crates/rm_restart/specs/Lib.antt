@@ -1,2 +1,4 @@
 pub mod Sound
 pub mod Opening
+pub mod Replaying
+pub mod Refusals

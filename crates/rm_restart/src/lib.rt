@@ -5,6 +5,7 @@
 //! A log with the record of a transaction that did not commit is refused.
 #![tactic(auto)]
 
+mod replay;
 mod restart;
 
 pub use restart::{Opened, Report, RestartFault};
