@@ -1,12 +1,13 @@
 //! Replaying the records of a log into the pages of a file.
 
-ghost use Rattle.std.specs.Prelude.{◌≡◌, ℕ, ◌^◌, ◌<◌, [], ◌∷◌, length, replicate, IfOk, OnOk, IfErr, IfSome, IfNone};
+ghost use Rattle.std.specs.Prelude.{◌≡◌, ℕ, ◌^◌, ◌<◌, [], ◌∷◌, length, replicate, reverse, IfOk, OnOk, IfErr};
 ghost use Rattle.rm_types.specs.declared.numbers.Lsn.{Lsn as Lsns};
 ghost use Rattle.rm_model.specs.Session.{set_row as with_row_set};
 ghost use Rattle.rm_record.specs.declared.records.LogRecord.TheVariants as log;
 ghost use Rattle.rm_history.specs.Histories.{History};
+ghost use Rattle.rm_restart.specs.Opening.{IsMisfit, IsMisfitAt};
 ghost use Rattle.rm_restart.specs.Replaying.{slots_of, Replays, LacksPlace};
-ghost use Rattle.rm_restart.specs.Refusals.{OnMisfit};
+ghost use Rattle.rm_restart.specs.Refusals.{IfMisfit};
 
 use rm_page::Page;
 use rm_record::{LogRecord, Logged};
@@ -17,8 +18,10 @@ use std::collections::BTreeSet;
 // Why a record was not replayed.
 #[derive(Clone, Copy, Debug, PartialEq, Eq)]
 pub enum ReplayRefused {
-    // It names no page of the file, or its page has no room for its row.
-    Misfit,
+    // The record with this LSN names no page of the file, or its page has no room for its row.
+    Misfit {
+        at: Lsn,
+    },
     NoMemory,
 }
 
@@ -47,15 +50,15 @@ fn empty_pages(alloc: Global, count: u32) -> Result<Vec<Page>, NoMemory>
 fn set_row(pages: &mut [Page], rid: Rid, row: &[u8], lsn: Lsn) -> Result<(), ReplayRefused>
     ensures inside { OnOk result (rid.page < length (slots_of pages.old)) }
     ensures ok { OnOk result (slots_of pages.new ≡ with_row_set (slots_of pages.old) rid row.now) }
-    ensures misfit { IfErr result (λ refused. OnMisfit refused (LacksPlace (slots_of pages.old) rid row.now)) }
+    ensures misfit { IfErr result (λ refused. IfMisfit refused (λ at. (at ≡ lsn) × LacksPlace (slots_of pages.old) rid row.now)) }
 {
     let number = rid.page as usize;
     if number >= pages.len() {
-        return Err(ReplayRefused::Misfit);
+        return Err(ReplayRefused::Misfit { at: lsn });
     }
     let page = &mut pages[number];
     if page.used_with(rid.slot, row) > CAPACITY as usize {
-        return Err(ReplayRefused::Misfit);
+        return Err(ReplayRefused::Misfit { at: lsn });
     }
     page.set(rid.slot, row, lsn)?;
     Ok(())
@@ -88,7 +91,7 @@ impl Replay {
         requires { self.old.inserts < 2 ^ 63 }
         ensures ok { (pages : ℕ) (history : History) (under : Lsns) (need : ℕ) → Replays pages history self.old
             → OnOk result (Replays pages (record { lsn = lsn; what = log.Insert txn under rid need row.now } ∷ history) self.new) }
-        ensures misfit { IfErr result (λ refused. OnMisfit refused (LacksPlace (slots_of self.old.pages.items) rid row.now)) }
+        ensures misfit { IfErr result (λ refused. IfMisfit refused (λ at. (at ≡ lsn) × LacksPlace (slots_of self.old.pages.items) rid row.now)) }
     {
         set_row(&mut self.pages, rid, row, lsn)?;
         match self.pending.insert(txn.0) {
@@ -107,4 +110,34 @@ impl Replay {
         self.pending.remove(&txn.0);
         self.greatest = txn.0.max(self.greatest);
     }
+
+    // Replays one record.
+    fn apply(&mut self, logged: &Logged) -> Result<(), ReplayRefused>
+        requires { self.old.inserts < 2 ^ 63 }
+        ensures ok { (pages : ℕ) (history : History) → Replays pages history self.old → OnOk result (Replays pages (logged.now ∷ history) self.new) }
+        ensures misfit { (pages : ℕ) (history : History) → Replays pages history self.old
+            → IfErr result (λ refused. IfMisfit refused (λ at. (at ≡ logged.now.lsn) × IsMisfit pages history logged.now)) }
+    {
+        match &logged.what {
+            LogRecord::Insert { txn, rid, row, .. } => {
+                self.insert(*txn, *rid, row.as_slice(), logged.lsn)
+            }
+            LogRecord::Commit { txn } => {
+                self.commit(*txn);
+                Ok(())
+            }
+        }
+    }
+}
+
+// Replays the records, the oldest of which comes first, into so many pages.
+pub fn replayed(alloc: Global, pages: u32, records: &[Logged]) -> Result<Replay, ReplayRefused>
+    ensures ok { IfOk result (Replays pages (reverse records.now)) }
+    ensures misfit { IfErr result (λ refused. IfMisfit refused (λ at. IsMisfitAt pages (reverse records.now) at.0)) }
+{
+    let mut replay = Replay::new(alloc, pages)?;
+    for logged in records {
+        replay.apply(logged)?;
+    }
+    Ok(replay)
 }
