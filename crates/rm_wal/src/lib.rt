@@ -9,6 +9,9 @@
 mod attaching;
 mod flushing;
 mod log;
+mod lookups;
+mod parsing;
+mod reading;
 
 pub use attaching::Attached;
 pub use log::{LONG_TAIL, Log, LogFull};

@@ -125,6 +125,13 @@ impl Log {
         (self.buffer.len() - LENGTH_BYTES) as u64
     }
 
+    /// The bytes of the records that are not durable.
+    pub(crate) fn tail_bytes(&self) -> &[u8]
+        ensures { result.now ≡ self.now.tail }
+    {
+        self.buffer.split_at(LENGTH_BYTES).1
+    }
+
     /// The offset that the next record has, at most 5 more than 2^48.
     pub fn end(&self) -> u64
         ensures value { result ≡ end_of self.now }

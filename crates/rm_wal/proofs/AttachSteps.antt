@@ -1,0 +1,42 @@
+-- Batches that are read one after another.
+use Rattle.std.proofs.Common.{◌≡◌, ℕ, ◌+◌, ◌≤◌, List, [], ◌∷◌, reverse, refl, sym, ap, subst, ◌∙◌, arith}
+use Rattle.rm_types.specs.declared.numbers.TheConstants.{MAX_LOG}
+use Rattle.rm_outside.specs.Images.{Bytes, Shows}
+use Rattle.rm_record.specs.declared.records.Logged.{Logged}
+use Rattle.rm_history.specs.declared.TheConstants.{BATCH_HEADER}
+use Rattle.rm_history.specs.Logs.{Batch, gate_of, body_of, IsBatch, AreBatches, Stands, IsDamagedAt}
+use Rattle.rm_history.specs.Histories.{History, onto, history_of}
+use Rattle.rm_wal.specs.Batches.{ReadsBatch, ReadsBatches, IsWrongBehind}
+
+-- no batch yet
+pub reads_no_batch : (told : Type 0) (area : Bytes) → ReadsBatches told area 0 []
+reads_no_batch told area = record { batches = []; are_batches = tt; stands = λ tells. tt; gate_is = refl; history_is = refl }
+
+-- one batch more
+pub reads_next_batch : {told : Type 0} {area : Bytes} {gate next : ℕ} {old new : List Logged} → ReadsBatches told area gate old → ReadsBatch told area gate next old new → ReadsBatches told area next new
+reads_next_batch {told} {area} {gate} {next} {old} {new} before one =
+    let at = before.gate_is in
+    let is : IsBatch (gate_of before.batches) one.batch = subst (λ (n : ℕ). IsBatch n one.batch) at one.is in
+    record {
+      batches = one.batch ∷ before.batches;
+      are_batches = (before.are_batches, is);
+      stands = λ tells. (
+        before.stands tells,
+        is,
+        subst (λ (n : ℕ). area n ≡ 1) at (one.shown tells).0,
+        subst (λ (n : ℕ). Shows area (n + 1) (body_of one.batch)) at (one.shown tells).1,
+      );
+      gate_is = omega (arith, one.next_is, at);
+      history_is = ap (λ (n : ℕ). onto (history_of before.batches) (n + BATCH_HEADER) one.batch) (sym at)
+      ∙ ap (λ (h : History). onto h (gate + BATCH_HEADER) one.batch) before.history_is ∙ sym one.onto_is;
+    }
+
+-- the next gate is behind this one
+pub gates_rise : {told : Type 0} {area : Bytes} {gate next : ℕ} {old new : List Logged} → ReadsBatch told area gate next old new → (gate + 6 ≤ next) × (next ≤ MAX_LOG)
+gates_rise one = (omega (arith, one.next_is, one.is.range.some), omega (arith, one.next_is, one.is.range.in_log))
+
+-- no batch stands behind the next gate, which is open
+pub damaged_there : {told : Type 0} {area : Bytes} {gate at : ℕ} {records : List Logged} → ReadsBatches told area gate records → told → IsWrongBehind area gate at → IsDamagedAt area at
+damaged_there {area = area} {at = at} before tells wrong =
+    let there : IsWrongBehind area (gate_of before.batches) at = subst (λ (n : ℕ). IsWrongBehind area n at) before.gate_is wrong in
+    record { batches = before.batches; stands = before.stands tells; begun = there.begun; wrong = there.wrong }
