@@ -1,4 +1,5 @@
 pub mod Sound
 pub mod Opening
+pub mod Outcomes
 pub mod Replaying
 pub mod Refusals

@@ -5,7 +5,9 @@
 //! A log with the record of a transaction that did not commit is refused.
 #![tactic(auto)]
 
+mod faults;
 mod replay;
 mod restart;
 
-pub use restart::{Opened, Report, RestartFault};
+pub use faults::RestartFault;
+pub use restart::{Opened, Report};

@@ -1,11 +1,12 @@
 //! Replaying the records of a log into the pages of a file.
 
-ghost use Rattle.std.specs.Prelude.{◌≡◌, ℕ, ◌^◌, ◌<◌, [], ◌∷◌, length, replicate, reverse, IfOk, OnOk, IfErr};
+ghost use Rattle.std.specs.Prelude.{◌≡◌, ℕ, ◌^◌, ◌<◌, [], ◌∷◌, length, replicate, reverse, IfOk, OnOk, IfErr, IfSome, IfNone};
 ghost use Rattle.rm_types.specs.declared.numbers.Lsn.{Lsn as Lsns};
 ghost use Rattle.rm_model.specs.Session.{set_row as with_row_set};
 ghost use Rattle.rm_record.specs.declared.records.LogRecord.TheVariants as log;
 ghost use Rattle.rm_history.specs.Histories.{History};
 ghost use Rattle.rm_restart.specs.Opening.{IsMisfit, IsMisfitAt};
+ghost use Rattle.rm_restart.specs.Outcomes.{IsLeastOf, IsNone};
 ghost use Rattle.rm_restart.specs.Replaying.{slots_of, Replays, LacksPlace};
 ghost use Rattle.rm_restart.specs.Refusals.{IfMisfit};
 
@@ -85,6 +86,15 @@ impl Replay {
             greatest: 0,
             inserts: 0,
         })
+    }
+
+    // The least id of a transaction that has a pending record.
+    pub fn least_pending(&self) -> Option<TxnId>
+        ensures some { IfSome result (λ txn. IsLeastOf self.now.pending txn.0) }
+        ensures none { IfNone result (IsNone self.now.pending) }
+    {
+        let least = self.pending.first()?;
+        Some(TxnId(*least))
     }
 
     fn insert(&mut self, txn: TxnId, rid: Rid, row: &[u8], lsn: Lsn) -> Result<(), ReplayRefused>

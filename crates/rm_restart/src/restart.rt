@@ -1,8 +1,26 @@
 //! Opening a volume.
 
+ghost use Rattle.std.specs.Prelude.{◌≡◌, ℕ, ◌+◌, ◌^◌, ◌≤◌, map, IsTrue, IfOk, OnOk, IfErr, Err};
+ghost use Rattle.rm_types.specs.declared.areas.Area.{Area as Areas};
+ghost use Rattle.rm_types.specs.declared.numbers.TheConstants.{MAX_LOG};
+ghost use Rattle.rm_types.specs.declared.numbers.TxnId.{TxnId as TxnIds};
+ghost use Rattle.rm_outside.specs.Faults.{Rises};
+ghost use Rattle.rm_outside.specs.Images.{Image};
+ghost use Rattle.rm_outside.specs.Reading.{OnlyReads};
+ghost use Rattle.rm_master.specs.Fields.{IsFields};
+ghost use Rattle.rm_master.specs.Slots.{HasFields, IsUnmade};
+ghost use Rattle.rm_restart.specs.Opening.{Opens, NeedsUndoOf, IsDamage};
+ghost use Rattle.rm_restart.specs.Outcomes.{Explains, IsNone, IsUndo};
+ghost use Rattle.rm_restart.specs.Replaying.{slots_of};
+
+use crate::faults::RestartFault;
+use crate::replay::{Replay, replayed};
+use rm_master::{Fields, Master, sync_areas};
+use rm_outside::Volume;
 use rm_page::Page;
-use rm_types::{Fault, TxnId};
+use rm_types::{Area, Fault};
 use rm_wal::Log;
+use std::alloc::Global;
 
 /// What restart did: how many changes of the log it read from its redo point on, how many of them it
 /// applied, and how many it undid.
@@ -24,13 +42,56 @@ pub struct Opened {
     pub report: Report,
 }
 
-/// Why a volume was not opened.
-#[derive(Clone, Copy, Debug, PartialEq, Eq)]
-pub enum RestartFault {
-    /// The made byte is not 1.
-    NotMade,
-    /// A transaction has a record in the log and did not commit; this is the least.
-    NeedsUndo { txn: TxnId },
-    Fault(Fault),
-    NoMemory,
+// The fields of a master that names no checkpoint, behind a sync of all areas.
+fn read_fields<V: Volume>(volume: &mut V) -> Result<Fields, RestartFault>
+    ensures rules { IfOk result IsFields }
+    ensures none { IfOk result (λ fields. fields.checkpoint ≡ 0) }
+    ensures fields { IfOk result (λ fields. IsTrue V.tells → HasFields (V.content volume.old Area.Master) fields) }
+    ensures synced { OnOk result ((c : Image) → V.may_leave volume.new c → c ≡ V.content volume.old) }
+    ensures explained { IfErr result (Explains (IsTrue V.tells) (V.content volume.old) (V.faults volume.old) (V.faults volume.new)) }
+    ensures reads { OnlyReads (V.content volume.old) (V.content volume.new) (V.may_leave volume.old) (V.may_leave volume.new)
+        (V.moment volume.old) (V.moment volume.new) (V.left_since volume.old) (V.left_since volume.new) (V.faults volume.old) (V.faults volume.new) }
+    ensures data_reads { V.data_reads volume.new ≡ V.data_reads volume.old }
+    ensures same { V.reference volume.new ≡ V.reference volume.old }
+{
+    sync_areas(volume)?;
+    let fields = Master::read(volume)?.fields;
+    if fields.checkpoint != 0 {
+        return Err(RestartFault::Fault(Fault::Damaged {
+            area: Area::Log,
+            at: fields.checkpoint,
+        }));
+    }
+    Ok(fields)
+}
+
+// The volume that a replay of its whole log opens, if it left nothing pending.
+fn finished(replay: Replay, log: Log) -> Result<Opened, RestartFault>
+    ensures none { OnOk result (IsNone replay.pending) }
+    ensures pages { IfOk result (λ opened. opened.pages.items ≡ replay.pages.items) }
+    ensures next { IfOk result (λ opened. opened.next ≡ replay.greatest + 1) }
+    ensures log { IfOk result (λ opened. opened.log ≡ log) }
+    ensures report { IfOk result (λ opened. opened.report ≡ record { redo = 0; records = replay.inserts; applied = replay.inserts; undone = 0 }) }
+    ensures pends { IfErr result (IsUndo replay.pending) }
+{
+    if let Some(txn) = replay.least_pending() {
+        return Err(RestartFault::NeedsUndo { txn });
+    }
+    let Replay {
+        pages,
+        greatest,
+        inserts,
+        ..
+    } = replay;
+    Ok(Opened {
+        pages,
+        next: greatest as u64 + 1,
+        log,
+        report: Report {
+            redo: 0,
+            records: inserts,
+            applied: inserts,
+            undone: 0,
+        },
+    })
 }
