@@ -95,3 +95,23 @@ fn finished(replay: Replay, log: Log) -> Result<Opened, RestartFault>
         },
     })
 }
+
+// Attaches the log of a file with these fields, and replays it.
+fn read_log<V: Volume>(alloc: Global, volume: &mut V, fields: &Fields, limit: u64) -> Result<Opened, RestartFault>
+    requires limit { limit ≤ MAX_LOG }
+    requires rules { IsFields fields.now }
+    requires none { fields.now.checkpoint ≡ 0 }
+    requires fields { IsTrue V.tells → HasFields (V.content volume.old Area.Master) fields.now }
+    ensures opened { IfOk result (λ opened. Opens (IsTrue V.tells) (V.content volume.old) limit (slots_of opened.pages.items) opened.next opened.log opened.report.records) }
+    ensures next { IfOk result (λ opened. opened.next ≤ 2 ^ 32) }
+    ensures report { IfOk result (λ opened. opened.report ≡ record { redo = 0; records = opened.report.records; applied = opened.report.records; undone = 0 }) }
+    ensures explained { IfErr result (Explains (IsTrue V.tells) (V.content volume.old) (V.faults volume.old) (V.faults volume.new)) }
+    ensures reads { OnlyReads (V.content volume.old) (V.content volume.new) (V.may_leave volume.old) (V.may_leave volume.new)
+        (V.moment volume.old) (V.moment volume.new) (V.left_since volume.old) (V.left_since volume.new) (V.faults volume.old) (V.faults volume.new) }
+    ensures data_reads { V.data_reads volume.new ≡ V.data_reads volume.old }
+    ensures same { V.reference volume.new ≡ V.reference volume.old }
+{
+    let attached = Log::attach(alloc, volume, limit)?;
+    let replay = replayed(alloc, fields.pages, &attached.records)?;
+    finished(replay, attached.log)
+}
