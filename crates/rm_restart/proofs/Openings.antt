@@ -18,8 +18,8 @@ use Rattle.rm_wal.specs.Tails.{LogValue}
 use Rattle.rm_wal.specs.Attaching.{Attaches}
 use Rattle.rm_history.specs.Logs.{IsDamagedAt as IsLogDamagedAt}
 use Rattle.rm_history.specs.Histories.{History, Change, pending, history_of}
-use Rattle.rm_restart.specs.declared.restart.Opened.{Opened}
-use Rattle.rm_restart.specs.declared.restart.Report.{Report}
+use Rattle.rm_restart.specs.declared.opening.Opened.{Opened}
+use Rattle.rm_restart.specs.declared.opening.Report.{Report}
 use Rattle.rm_restart.specs.declared.faults.RestartFault.{RestartFault}
 use Rattle.rm_restart.specs.declared.replay.Replay.{Replay}
 use Rattle.rm_restart.specs.Opening.{Opens, WasRead, IsDamage}

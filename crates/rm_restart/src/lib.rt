@@ -7,7 +7,7 @@
 
 mod faults;
 mod replay;
-mod restart;
+mod opening;
 
 pub use faults::RestartFault;
-pub use restart::{Opened, Report};
+pub use opening::{Opened, Report, restart};

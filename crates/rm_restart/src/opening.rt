@@ -115,3 +115,37 @@ fn read_log<V: Volume>(alloc: Global, volume: &mut V, fields: &Fields, limit: u6
     let replay = replayed(alloc, fields.pages, &attached.records)?;
     finished(replay, attached.log)
 }
+
+/// Opens a volume: syncs its areas, reads its master, and replays its log from the start into pages in memory.
+/// The log grows up to `limit` bytes, at most 2^48. It writes nothing.
+///
+/// # Errors
+///
+/// - [`RestartFault::NotMade`] where the made byte is not 1.
+/// - [`Fault::Damaged`] on a volume that is made: the master's place, where it has no fields; the log's first place that
+///   is out of its grammar; the checkpoint that the master names, since no record of one can stand there; or the LSN of
+///   the first record that names no page of the file, or whose page has no room for it.
+/// - [`RestartFault::NeedsUndo`] with the least transaction that has a record in the log and did not commit.
+/// - [`Fault::Volume`] with the area that failed.
+/// - [`RestartFault::NoMemory`].
+pub fn restart<V: Volume>(alloc: Global, volume: &mut V, limit: u64) -> Result<Opened, RestartFault>
+    requires { limit ≤ MAX_LOG }
+    ensures opened { IfOk result (λ opened. Opens (IsTrue V.tells) (V.content volume.old) limit (map (λ page. page.slots) opened.pages.items) opened.next opened.log opened.report.records) }
+    ensures next { IfOk result (λ opened. (1 ≤ opened.next) × (opened.next ≤ 2 ^ 32)) }
+    ensures report { IfOk result (λ opened. opened.report ≡ record { redo = 0; records = opened.report.records; applied = opened.report.records; undone = 0 }) }
+    ensures synced { OnOk result ((c : Image) → V.may_leave volume.new c → c ≡ V.content volume.old) }
+
+    ensures not_made { result ≡ Err RestartFault.NotMade → IsTrue V.tells → IsUnmade (V.content volume.old) }
+    ensures damaged { (area : Areas) (at : ℕ) → result ≡ Err (RestartFault.Fault (Fault.Damaged area at)) → IsTrue V.tells → IsDamage (V.content volume.old) area at }
+    ensures made { (area : Areas) (at : ℕ) → result ≡ Err (RestartFault.Fault (Fault.Damaged area at)) → IsTrue V.tells → IsUnmade (V.content volume.old) → ⊥ }
+    ensures needs_undo { (txn : TxnIds) → result ≡ Err (RestartFault.NeedsUndo txn) → NeedsUndoOf (IsTrue V.tells) (V.content volume.old) txn.0 }
+    ensures cause { (area : Areas) → result ≡ Err (RestartFault.Fault (Fault.Volume area)) → Rises (V.faults volume.old area) (V.faults volume.new area) }
+
+    ensures reads { OnlyReads (V.content volume.old) (V.content volume.new) (V.may_leave volume.old) (V.may_leave volume.new)
+        (V.moment volume.old) (V.moment volume.new) (V.left_since volume.old) (V.left_since volume.new) (V.faults volume.old) (V.faults volume.new) }
+    ensures data_reads { V.data_reads volume.new ≡ V.data_reads volume.old }
+    ensures same { V.reference volume.new ≡ V.reference volume.old }
+{
+    let fields = read_fields(volume)?;
+    read_log(alloc, volume, &fields, limit)
+}
