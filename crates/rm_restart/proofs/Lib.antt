@@ -1,3 +1,4 @@
 pub mod Pages
 pub mod Misfits
 pub mod Openings
+pub mod Soundness

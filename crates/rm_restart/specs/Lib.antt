@@ -3,3 +3,4 @@ pub mod Opening
 pub mod Outcomes
 pub mod Replaying
 pub mod Refusals
+pub mod Laws
