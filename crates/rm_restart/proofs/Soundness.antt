@@ -92,12 +92,14 @@ fresh_is_sound pages content fresh =
       size = refl;
       checkpoint = refl;
       log = record { stands = tt; closed = fresh.cleared.gate };
-    } in
-    (record {
-      sound = record { pages = pages; batches = []; image = image; sound_log = empty_is_sound pages };
-      commits_are = refl;
-      rows_are = refl;
-    }, refl)
+    } in (
+      record {
+        sound = record { pages = pages; batches = []; image = image; sound_log = empty_is_sound pages };
+        commits_are = refl;
+        rows_are = refl;
+      },
+      refl,
+    )
 
 -- what an opening reads
 pub opened_is_sound : (told : Type 0) (content : Image) (limit : ℕ) (pages : List (List Slot)) (next : ℕ) (log : LogValue) (inserted : ℕ)

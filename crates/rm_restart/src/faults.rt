@@ -14,9 +14,7 @@ pub enum RestartFault {
     /// The made byte is not 1.
     NotMade,
     /// A transaction has a record in the log and did not commit; this is the least.
-    NeedsUndo {
-        txn: TxnId,
-    },
+    NeedsUndo { txn: TxnId },
     /// An area failed, or what stands at that place of the area (in bytes) is not what belongs there.
     Fault(Fault),
     NoMemory,

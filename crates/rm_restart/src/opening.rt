@@ -97,7 +97,12 @@ fn finished(replay: Replay, log: Log) -> Result<Opened, RestartFault>
 }
 
 // Attaches the log of a file with these fields, and replays it.
-fn read_log<V: Volume>(alloc: Global, volume: &mut V, fields: &Fields, limit: u64) -> Result<Opened, RestartFault>
+fn read_log<V: Volume>(
+    alloc: Global,
+    volume: &mut V,
+    fields: &Fields,
+    limit: u64,
+) -> Result<Opened, RestartFault>
     requires limit { limit ≤ MAX_LOG }
     requires rules { IsFields fields.now }
     requires none { fields.now.checkpoint ≡ 0 }

@@ -20,9 +20,7 @@ use std::collections::BTreeSet;
 #[derive(Clone, Copy, Debug, PartialEq, Eq)]
 pub enum ReplayRefused {
     // The record with this LSN names no page of the file, or its page has no room for its row.
-    Misfit {
-        at: Lsn,
-    },
+    Misfit { at: Lsn },
     NoMemory,
 }
 
