@@ -3,16 +3,15 @@ use Rattle.std.proofs.Common.{◌≡◌, ◌⊎◌, inl, inr, ℕ, ◌+◌, ◌<
 use Rattle.std.specs.Int.{to_be_bytes, from_be_bytes, w32}
 use Rattle.std.specs.List.{AllByRecursion}
 use Rattle.std.proofs.lemmas.Grind.{flat_map-append}
-use Rattle.std.proofs.lemmas.List.{append-nil, take-append-drop, length-take}
+use Rattle.std.proofs.lemmas.List.{take-append-drop, length-take}
 use Rattle.std.proofs.lemmas.Nat.{from_be_bytes-to_be_bytes_4}
 use Rattle.rm_outside.specs.Images.{Bytes, Shows}
 use Rattle.rm_outside.proofs.ShowsLemmas.{shows_front, shows_back, shows_once}
 use Rattle.rm_record.specs.declared.records.LogRecord.{LogRecord}
 use Rattle.rm_record.specs.Records.{spelling, spelling_all, IsRecord}
 use Rattle.rm_record.proofs.RecordLaws.{spellings_are_apart}
-use Rattle.rm_history.specs.declared.TheConstants.{BATCH_HEADER}
 use Rattle.rm_history.specs.Logs.{Batch, gate_of, body_of, IsInRange, IsBatch, Stands, HasLog, HasWrongLength, HasWrongRecord, IsDamagedAt}
-use Rattle.rm_history.proofs.Readings.{spelling_long, last_of, stands_front, overlap, none_behind}
+use Rattle.rm_history.proofs.Readings.{last_of, stands_front, overlap, none_behind}
 
 -- the record behind some records of a batch
 record Next (front batch : Batch) : Type 0 where
@@ -42,6 +41,10 @@ next_of (first ∷ front) (other ∷ batch) behind are batch_are same shorter =
     next_more first other front batch parts.0
     (next_of front batch behind are.1 batch_are.1 parts.1
     (omega (arith, sizes, length-append (spelling first) (spelling_all front), length-append (spelling other) (spelling_all batch))))
+
+-- the bytes of a batch around that record
+spelled_around : (front batch : Batch) (found : Next front batch) → spelling_all batch ≡ spelling_all front ++ (spelling found.next ++ spelling_all found.rest)
+spelled_around front batch found = ap spelling_all found.split ∙ flat_map-append spelling front (found.next ∷ found.rest)
 
 module _ (area : Bytes) where
   -- as many bytes as some that stand there
@@ -76,7 +79,7 @@ module _ (area : Bytes) where
       let found = next_of front batch (drop (length (spelling_all front)) (spelling_all batch)) wrong.records is.records
       (shows_take (gate + 1 + 4) (spelling_all front) (spelling_all batch) begins whole (omega arith)) shorter in
       let spelled : spelling_all batch ≡ spelling_all front ++ (spelling found.next ++ spelling_all found.rest) =
-      ap spelling_all found.split ∙ flat_map-append spelling front (found.next ∷ found.rest) in
+      spelled_around front batch found in
       let there : Shows area (gate + 1 + 4 + length (spelling_all front)) (spelling found.next) =
       shows_front (spelling found.next) (spelling_all found.rest)
       (shows_back (spelling_all front) (spelling found.next ++ spelling_all found.rest) (subst (λ (l : List ℕ). Shows area (gate + 1 + 4) l) spelled whole)) in

@@ -1,5 +1,5 @@
 -- What is opened, and why not, by what the log and the master said.
-use Rattle.std.proofs.Common.{◌≡◌, inl, inr, ℕ, ◌+◌, List, [], ◌∷◌, length, Result, Ok, Err, IfOk, OnOk, true, false, reverse, refl, sym, ap, subst, ◌∙◌}
+use Rattle.std.proofs.Common.{◌≡◌, inl, ℕ, ◌+◌, List, [], ◌∷◌, length, Result, Ok, Err, IfOk, OnOk, false, reverse, refl, sym, ap, subst, ◌∙◌}
 use Rattle.std.proofs.lemmas.Bool.{true≢false}
 use Rattle.rm_types.specs.declared.areas.Area.{Area}
 use Rattle.rm_types.specs.declared.areas.Area.TheVariants.{Master, Log}
@@ -22,7 +22,7 @@ use Rattle.rm_restart.specs.declared.opening.Opened.{Opened}
 use Rattle.rm_restart.specs.declared.opening.Report.{Report}
 use Rattle.rm_restart.specs.declared.faults.RestartFault.{RestartFault}
 use Rattle.rm_restart.specs.declared.replay.Replay.{Replay}
-use Rattle.rm_restart.specs.Opening.{Opens, WasRead, IsDamage}
+use Rattle.rm_restart.specs.Opening.{Opens, IsDamage}
 use Rattle.rm_restart.specs.Outcomes.{Explains, of_store, IsNone}
 use Rattle.rm_restart.specs.Replaying.{slots_of, has_some, Replays}
 

@@ -1,6 +1,5 @@
 -- What is sound is not damaged, and what an opening reads of it.
-use Rattle.std.proofs.Common.{◌≡◌, inl, inr, ℕ, ◌+◌, ◌≤◌, List, [], ◌∷◌, ◌++◌, None, refl, sym, ap, subst, ◌∙◌, arith}
-use Rattle.rm_types.specs.declared.numbers.TheConstants.{MAX_LOG}
+use Rattle.std.proofs.Common.{◌≡◌, inl, inr, ℕ, List, [], ◌∷◌, ◌++◌, None, refl, sym, ap, subst, ◌∙◌, arith}
 use Rattle.rm_types.specs.declared.slots.Slot.{Slot}
 use Rattle.rm_types.specs.declared.areas.Area.{Area}
 use Rattle.rm_types.specs.declared.areas.Area.TheVariants.{Master, Log, Data, Space, Copy}
@@ -12,10 +11,9 @@ use Rattle.rm_master.specs.Fresh.{IsFresh}
 use Rattle.rm_master.proofs.SlotLemmas.{one_shown}
 use Rattle.rm_record.specs.declared.records.Logged.{Logged}
 use Rattle.rm_wal.specs.Tails.{LogValue}
-use Rattle.rm_history.specs.declared.TheConstants.{BATCH_HEADER}
-use Rattle.rm_history.specs.Logs.{Batch, gate_of, HasLog, IsDamagedAt as IsLogDamagedAt}
-use Rattle.rm_history.specs.Histories.{History, Change, history_of, pending, page_of}
-use Rattle.rm_history.specs.Legal.{IsLegal, IsBelow, AreBelow, Fits, undo_bytes}
+use Rattle.rm_history.specs.Logs.{Batch}
+use Rattle.rm_history.specs.Histories.{History, history_of, pending}
+use Rattle.rm_history.specs.Legal.{IsLegal, IsBelow, AreBelow, Fits}
 use Rattle.rm_history.proofs.Readings.{log_once}
 use Rattle.rm_history.proofs.Damages.{damaged_has_no_log}
 use Rattle.rm_history.proofs.Undo.{undo_bytes-none}

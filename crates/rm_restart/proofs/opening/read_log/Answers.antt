@@ -1,8 +1,6 @@
-use Rattle.std.proofs.Common.{refl, IsTrue, reverse}
+use Rattle.std.proofs.Common.{IsTrue}
 use Rattle.std.proofs.lemmas.Result.{err_from_is_err_and}
-use Rattle.rm_types.specs.declared.areas.Area.TheVariants.{Log}
 use Rattle.rm_restart.proofs.Openings.{explains_store, opens}
-use Rattle.rm_restart.specs.Replaying.{Replays}
 use Rattle.rm_restart.proofs.opening.read_log.Goals as goal
 
 pub returns-in_err-attached-clause-explained : goal.returns-in_err-attached-clause-explained
