@@ -2,3 +2,4 @@ pub mod Onto
 pub mod Settled
 pub mod Readings
 pub mod Undo
+pub mod Damages

@@ -42,17 +42,17 @@ module _ (area : Bytes) where
       records_once batch other is.records other_is.records spelled
 
   -- what stands without the newest batches
-  stands_front : (more batches : List Batch) → Stands area (more ++ batches) → Stands area batches
+  pub stands_front : (more batches : List Batch) → Stands area (more ++ batches) → Stands area batches
   stands_front [] batches stands = stands
   stands_front (newest ∷ more) batches stands = stands_front more batches stands.0
 
   -- the newest and the oldest of some
-  last_of : (newest : Batch) (more : List Batch) → (front : List Batch) × (oldest : Batch) × (newest ∷ more ≡ front ++ oldest ∷ [])
+  pub last_of : (newest : Batch) (more : List Batch) → (front : List Batch) × (oldest : Batch) × (newest ∷ more ≡ front ++ oldest ∷ [])
   last_of newest [] = ([], newest, refl)
   last_of newest (next ∷ more) = let rest = last_of next more in (newest ∷ rest.0, rest.1, ap (λ (l : List Batch). newest ∷ l) rest.2)
 
   -- of two lists that stand, one begins the other
-  abbrev Overlap : List Batch → List Batch → Type 0
+  abbrev pub Overlap : List Batch → List Batch → Type 0
   Overlap batches others = ((more : List Batch) × (batches ≡ more ++ others)) ⊎ ((more : List Batch) × (others ≡ more ++ batches))
 
   overlap_more : (newest : Batch) (batches others more : List Batch) → Stands area (newest ∷ batches) → Stands area others → others ≡ more ++ batches → Overlap (newest ∷ batches) others
@@ -64,7 +64,7 @@ module _ (area : Bytes) where
       let same : parts.1 ≡ newest = batch_once (gate_of batches) parts.1 newest there.1 stands.1 there.3 stands.3 in
       inr (parts.0, split ∙ ap (λ (b : Batch). parts.0 ++ (b ∷ batches)) same)
 
-  overlap : (batches others : List Batch) → Stands area batches → Stands area others → Overlap batches others
+  pub overlap : (batches others : List Batch) → Stands area batches → Stands area others → Overlap batches others
   overlap [] others stands others_stand = inr (others, sym (append-nil others))
   overlap (newest ∷ batches) others stands others_stand = elim (overlap batches others stands.0 others_stand) [
     | inl found ↦ inl (newest ∷ found.0, ap (λ (l : List Batch). newest ∷ l) found.1)
@@ -72,7 +72,7 @@ module _ (area : Bytes) where
   ]
 
   -- behind a closed gate there is no other batch
-  none_behind : (batches others more : List Batch) → (area (gate_of others) ≡ 1 → ⊥) → Stands area batches → batches ≡ more ++ others → batches ≡ others
+  pub none_behind : (batches others more : List Batch) → (area (gate_of others) ≡ 1 → ⊥) → Stands area batches → batches ≡ more ++ others → batches ≡ others
   none_behind batches others [] shut stands is = is
   none_behind batches others (next ∷ more) shut stands is =
       let parts = last_of next more in

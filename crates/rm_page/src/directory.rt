@@ -1,9 +1,9 @@
 //! The directory of a page, as a plain list of slots.
 
-ghost use Rattle.std.specs.Prelude.{◌≡◌, ◌≤◌, option_copied, slice_index_or, OnOk, OnErr};
+ghost use Rattle.std.specs.Prelude.{◌≡◌, option_copied, slice_index_or, OnOk, OnErr};
 ghost use Rattle.rm_model.specs.Pages.{used, row_length, row_at, set_slot};
 
-use rm_types::{CAPACITY, NoMemory, SLOT_ENTRY, Slot};
+use rm_types::{NoMemory, SLOT_ENTRY, Slot};
 
 // The bytes of the row in a slot, or none where the slot is vacant or past the end.
 pub fn row_in(slots: &[Slot], number: u16) -> Option<&[u8]>
@@ -16,14 +16,13 @@ pub fn row_in(slots: &[Slot], number: u16) -> Option<&[u8]>
 }
 
 // The bytes in use once the slot has that row, from the bytes in use now.
-pub fn used_after(slots: &[Slot], used_now: u16, number: u16, row: &[u8]) -> u16
+pub fn used_after(slots: &[Slot], used_now: u16, number: u16, row: &[u8]) -> usize
     requires counted { used_now ≡ used slots.now }
-    requires fits { used (set_slot slots.now number (Slot.Row row.now)) ≤ CAPACITY }
     ensures { result ≡ used (set_slot slots.now number (Slot.Row row.now)) }
 {
     let replaced = length_in(slots, number);
     let added = (number as usize + 1).saturating_sub(slots.len());
-    (used_now as usize - replaced + SLOT_ENTRY as usize * added + row.len()) as u16
+    used_now as usize - replaced + SLOT_ENTRY as usize * added + row.len()
 }
 
 // How many bytes the row in a slot has, 0 where there is none.

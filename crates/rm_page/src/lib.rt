@@ -72,6 +72,13 @@ impl Page {
         self.used
     }
 
+    /// The bytes that would be in use with the slot set to that row: more than [`CAPACITY`] where it does not fit.
+    pub fn used_with(&self, slot: u16, row: &[u8]) -> usize
+        ensures { result ≡ used (set_slot self.now.slots slot (Slot.Row row.now)) }
+    {
+        used_after(&self.slots, self.used, slot, row)
+    }
+
     /// The bytes of the row in a slot, at most [`rm_types::MAX_ROW`]: none exactly where the slot is vacant or
     /// past the end.
     pub fn row(&self, slot: u16) -> Option<&[u8]>
@@ -97,7 +104,7 @@ impl Page {
     }
 
     /// Sets one slot to a row, with `lsn` as the page's LSN. A slot past the end adds vacant ones before it.
-    /// The caller sees to it that the row fits: there is no refusal for space.
+    /// The caller sees to it that the row fits, as [`Page::used_with`] tells: there is no refusal for space.
     ///
     /// # Errors
     ///
@@ -107,7 +114,7 @@ impl Page {
         ensures ok { OnOk result (self.new ≡ record { lsn = lsn; slots = set_slot self.old.slots slot (Slot.Row row.now) }) }
         ensures err { OnErr result (self.new ≡ self.old) }
     {
-        let used = used_after(&self.slots, self.used, slot, row);
+        let used = self.used_with(slot, row) as u16;
         let row = Row::from_slice(*self.slots.allocator(), row)?;
         put(&mut self.slots, slot, Slot::Row(row))?;
         self.used = used;

@@ -1,2 +1,6 @@
 pub mod Sound
 pub mod Opening
+pub mod Outcomes
+pub mod Replaying
+pub mod Refusals
+pub mod Laws

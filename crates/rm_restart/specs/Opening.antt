@@ -45,6 +45,10 @@ pub record NeedsUndoOf (told : Type 0) (content : Image) (id : ℕ) : Type 0 whe
   pub pends : pending (history_of batches) id ≡ [] → ⊥
   pub least : (other : ℕ) → other < id → pending (history_of batches) other ≡ []
 
+-- with this record behind it the history names a page that the file lacks, or has a page that does not fit
+abbrev pub IsMisfit : ℕ → History → Logged → Type 0
+IsMisfit pages before logged = (IsBelow pages logged.what → ⊥) ⊎ ((page : ℕ) × (CAPACITY < used (page_of (logged ∷ before) page)))
+
 -- The record with this LSN is the first that names no page of the file, or with which its page does not fit.
 pub record IsMisfitAt (pages : ℕ) (history : History) (at : ℕ) : Type 0 where
   pub more : History
@@ -53,7 +57,7 @@ pub record IsMisfitAt (pages : ℕ) (history : History) (at : ℕ) : Type 0 wher
   pub split : history ≡ more ++ logged ∷ before
   pub place : at ≡ logged.lsn.0
   pub fits : AreBelow pages before
-  pub misfit : (IsBelow pages logged.what → ⊥) ⊎ ((page : ℕ) × (CAPACITY < used (page_of (logged ∷ before) page)))
+  pub misfit : IsMisfit pages before logged
 
 -- The place of the log at which a read went wrong: out of its grammar, no checkpoint's record, or a misfit.
 pub record IsMisfitOf (content : Image) (at : ℕ) : Type 0 where

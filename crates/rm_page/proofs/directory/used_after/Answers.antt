@@ -3,10 +3,6 @@ use Rattle.rm_types.specs.declared.slots.Slot.TheVariants.{Row}
 use Rattle.rm_model.proofs.Slots.{used-set_slot, row_length-le-used}
 use Rattle.rm_page.proofs.directory.used_after.Goals as goal
 
-pub overflow_cast-result-3 : goal.overflow_cast-result-3
-overflow_cast-result-3 c =
-    omega (arith, used-set_slot c.args.slots.now c.args.number (Row c.args.row.now), row_length-le-used c.args.slots.now c.args.number)
-
 pub returns : goal.returns
 returns c =
     omega (arith, used-set_slot c.args.slots.now c.args.number (Row c.args.row.now), row_length-le-used c.args.slots.now c.args.number)

@@ -1,0 +1,4 @@
+pub mod Pages
+pub mod Misfits
+pub mod Openings
+pub mod Soundness

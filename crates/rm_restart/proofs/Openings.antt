@@ -1,0 +1,71 @@
+-- What is opened, and why not, by what the log and the master said.
+use Rattle.std.proofs.Common.{◌≡◌, inl, ℕ, ◌+◌, List, [], ◌∷◌, length, Result, Ok, Err, IfOk, OnOk, false, reverse, refl, sym, ap, subst, ◌∙◌}
+use Rattle.std.proofs.lemmas.Bool.{true≢false}
+use Rattle.rm_types.specs.declared.areas.Area.{Area}
+use Rattle.rm_types.specs.declared.areas.Area.TheVariants.{Master, Log}
+use Rattle.rm_types.specs.declared.faults.Fault.TheVariants as fault
+use Rattle.rm_types.specs.declared.faults.StoreFault.{StoreFault}
+use Rattle.rm_types.specs.declared.faults.StoreFault.TheVariants as store
+use Rattle.rm_outside.specs.Faults.{Rises}
+use Rattle.rm_outside.specs.Images.{Image}
+use Rattle.rm_record.specs.declared.records.Logged.{Logged}
+use Rattle.rm_master.specs.declared.fields.Fields.{Fields}
+use Rattle.rm_master.specs.Fields.{IsFields}
+use Rattle.rm_master.specs.Slots.{HasFields}
+use Rattle.rm_model.specs.Pages.{PageValue}
+use Rattle.rm_model.specs.Session.{page_at}
+use Rattle.rm_wal.specs.Tails.{LogValue}
+use Rattle.rm_wal.specs.Attaching.{Attaches}
+use Rattle.rm_history.specs.Logs.{IsDamagedAt as IsLogDamagedAt}
+use Rattle.rm_history.specs.Histories.{History, Change, pending, history_of}
+use Rattle.rm_restart.specs.declared.opening.Opened.{Opened}
+use Rattle.rm_restart.specs.declared.opening.Report.{Report}
+use Rattle.rm_restart.specs.declared.faults.RestartFault.{RestartFault}
+use Rattle.rm_restart.specs.declared.replay.Replay.{Replay}
+use Rattle.rm_restart.specs.Opening.{Opens, IsDamage}
+use Rattle.rm_restart.specs.Outcomes.{Explains, of_store, IsNone}
+use Rattle.rm_restart.specs.Replaying.{slots_of, has_some, Replays}
+
+-- a fault of the log's attaching
+pub explains_store : {T : Type 0} (told : Type 0) (content : Image) (before after : Area → ℕ) (fields : Fields) (result : Result T StoreFault) (e : StoreFault) → result ≡ Err e
+    → (told → HasFields (content Master) fields)
+    → ((area : Area) (at : ℕ) → result ≡ Err (store.Fault (fault.Damaged area at)) → (area ≡ Log) × (told → IsLogDamagedAt (content Log) at))
+    → ((area : Area) → result ≡ Err (store.Fault (fault.Volume area)) → (area ≡ Log) × Rises (before Log) (after Log))
+    → Explains told content before after (of_store e)
+explains_store told content before after fields result (store.Fault (fault.Damaged area at)) is has damaged cause =
+    let found = damaged area at is in
+    λ tells. record {
+      made = λ unmade. unmade (has tells).made;
+      damage = subst (λ (a : Area). IsDamage content a at) (sym found.0) (inl (found.1 tells));
+    }
+explains_store told content before after fields result (store.Fault (fault.Volume area)) is has damaged cause =
+    let found = cause area is in
+    subst (λ (a : Area). Rises (before a) (after a)) (sym found.0) found.1
+explains_store told content before after fields result store.NoMemory is has damaged cause = tt
+
+none_pending : (changes : List Change) → has_some changes ≡ false → changes ≡ []
+none_pending [] none = refl
+none_pending (newest ∷ before) none = absurd (true≢false none)
+
+-- the log's replay left nothing pending
+pub opens : (told : Type 0) (content : Image) (limit : ℕ) (fields : Fields) (log : LogValue) (records : List Logged) (replay : Replay) (result : Result Opened RestartFault)
+    → IsFields fields → fields.checkpoint ≡ 0 → (told → HasFields (content Master) fields) → Attaches told (content Log) limit log records → Replays fields.pages (reverse records) replay
+    → OnOk result (IsNone replay.pending) → IfOk result (λ opened. opened.pages.items ≡ replay.pages.items) → IfOk result (λ opened. opened.next ≡ replay.greatest + 1)
+    → IfOk result (λ opened. opened.log ≡ log) → IfOk result (λ opened. opened.report ≡ record { redo = 0; records = replay.inserts; applied = replay.inserts; undone = 0 })
+    → IfOk result (λ opened. Opens told content limit (slots_of opened.pages.items) opened.next opened.log opened.report.records)
+opens told content limit fields log records replay (Ok opened) rules no_checkpoint has attached replayed none pages next logged report =
+    let history : History = history_of attached.batches in
+    let all : Replays fields.pages history replay = subst (λ (h : History). Replays fields.pages h replay) (sym attached.history_is) replayed in
+    record {
+      fields = fields;
+      batches = attached.batches;
+      read = record { is_fields = rules; has_fields = has; checkpoint = no_checkpoint; are_batches = attached.are_batches; has_log = attached.has_log };
+      below = all.below;
+      settled = λ id. none_pending (pending history id) (sym (all.pending_are id) ∙ none.each id);
+      count = ap (λ (items : List PageValue). length (slots_of items)) pages ∙ all.count;
+      pages_are = λ page inside. ap (λ (items : List PageValue). page_at (slots_of items) page) pages ∙ all.pages_are page inside;
+      next_is = next ∙ ap (λ (n : ℕ). n + 1) all.greatest_is;
+      log_is = logged ∙ attached.log_is;
+      inserted_is = ap (λ (r : Report). r.records) report ∙ all.inserts_are;
+    }
+opens told content limit fields log records replay (Err e) rules no_checkpoint has attached replayed none pages next logged report = tt

@@ -1,0 +1,35 @@
+-- What a replay of a history has found.
+use Rattle.std.specs.Prelude.{◌≡◌, ℕ, ◌<◌, ◌≤◌, Bool, true, false, List, [], ◌∷◌, length, map, ◌⊎◌}
+use Rattle.std.specs.Ordering.{nat_cmp}
+use Rattle.std.specs.BTreeSet.{contains}
+use Rattle.rm_types.specs.declared.numbers.Rid.{Rid}
+use Rattle.rm_types.specs.declared.slots.Slot.{Slot}
+use Rattle.rm_types.specs.declared.slots.Slot.TheVariants.{Row}
+use Rattle.rm_types.specs.declared.slots.TheConstants.{CAPACITY}
+use Rattle.rm_model.specs.Pages.{PageValue, used, set_slot}
+use Rattle.rm_model.specs.Session.{page_at}
+use Rattle.rm_history.specs.Histories.{History, Change, page_of, pending, greatest_id, inserts}
+use Rattle.rm_history.specs.Legal.{AreBelow}
+use Rattle.rm_restart.specs.declared.replay.Replay.{Replay}
+
+-- the slots of each page
+abbrev pub slots_of : List PageValue → List (List Slot)
+slots_of pages = map (λ page. page.slots) pages
+
+-- there are some changes
+abbrev pub has_some : List Change → Bool
+has_some [] = false
+has_some (newest ∷ before) = true
+
+-- The pages are those of the history, and it has these pending transactions, this greatest id and so many inserts.
+pub record Replays (pages : ℕ) (history : History) (replay : Replay) : Type 0 where
+  pub count : length (slots_of replay.pages.items) ≡ pages
+  pub below : AreBelow pages history
+  pub pages_are : (page : ℕ) → page < pages → page_at (slots_of replay.pages.items) page ≡ page_of history page
+  pub pending_are : (id : ℕ) → contains nat_cmp replay.pending id ≡ has_some (pending history id)
+  pub greatest_is : replay.greatest ≡ greatest_id history
+  pub inserts_are : replay.inserts ≡ inserts history
+
+-- the row id names no page of these, or its page has no room for the row
+abbrev pub LacksPlace : List (List Slot) → Rid → List ℕ → Type 0
+LacksPlace pages rid row = (length pages ≤ rid.page) ⊎ (CAPACITY < used (set_slot (page_at pages rid.page) rid.slot (Row row)))

@@ -1,0 +1,65 @@
+//! Why a volume was not opened.
+
+ghost use Rattle.std.specs.Prelude.{◌≡◌};
+ghost use Rattle.rm_restart.specs.declared.faults.RestartFault.TheVariants as restart;
+ghost use Rattle.rm_restart.specs.Outcomes.{of_master, of_store, of_replay};
+
+use crate::replay::ReplayRefused;
+use rm_master::MasterFault;
+use rm_types::{Area, Fault, StoreFault, TxnId};
+
+/// Why a volume was not opened.
+#[derive(Clone, Copy, Debug, PartialEq, Eq)]
+pub enum RestartFault {
+    /// The made byte is not 1.
+    NotMade,
+    /// A transaction has a record in the log and did not commit; this is the least.
+    NeedsUndo { txn: TxnId },
+    /// An area failed, or what stands at that place of the area (in bytes) is not what belongs there.
+    Fault(Fault),
+    NoMemory,
+}
+
+impl From<Fault> for RestartFault {
+    ghost from_gives = { λ fault opened. opened ≡ restart.Fault fault };
+
+    fn from(fault: Fault) -> RestartFault {
+        RestartFault::Fault(fault)
+    }
+}
+
+impl From<MasterFault> for RestartFault {
+    ghost from_gives = { λ fault opened. opened ≡ of_master fault };
+
+    fn from(fault: MasterFault) -> RestartFault {
+        match fault {
+            MasterFault::NotMade => RestartFault::NotMade,
+            MasterFault::Fault(fault) => RestartFault::Fault(fault),
+        }
+    }
+}
+
+impl From<StoreFault> for RestartFault {
+    ghost from_gives = { λ fault opened. opened ≡ of_store fault };
+
+    fn from(fault: StoreFault) -> RestartFault {
+        match fault {
+            StoreFault::Fault(fault) => RestartFault::Fault(fault),
+            StoreFault::NoMemory => RestartFault::NoMemory,
+        }
+    }
+}
+
+impl From<ReplayRefused> for RestartFault {
+    ghost from_gives = { λ refused opened. opened ≡ of_replay refused };
+
+    fn from(refused: ReplayRefused) -> RestartFault {
+        match refused {
+            ReplayRefused::Misfit { at } => RestartFault::Fault(Fault::Damaged {
+                area: Area::Log,
+                at: at.0,
+            }),
+            ReplayRefused::NoMemory => RestartFault::NoMemory,
+        }
+    }
+}
