@@ -1,0 +1,74 @@
+-- What the laws of a volume ask, of what was done to it.
+use Rattle.std.proofs.Common.{◌≡◌, ◌⊎◌, inl, inr, ℕ, suc, ◌≤◌, Bool, true, false, List, [], ◌∷◌, length, refl, arith}
+use Rattle.rm_types.specs.declared.areas.Area.{Area}
+use Rattle.rm_outside.specs.Images.{Image, Torn, Shows}
+use Rattle.rm_outside.specs.Moments.{AddsNone, Follows, IsDurable, Elapses}
+use Rattle.rm_memory.specs.Puts.{put}
+use Rattle.rm_memory.specs.History.{Event, Write, Sync, content, may_leave, left_since}
+use Rattle.rm_memory.proofs.PutLemmas.{torn_same, torn_put, put_shows}
+
+pub counts_now : (base : Image) (events : List Event) (t : ℕ) (c : Image) → may_leave base events c → left_since base events t c
+unfolding left_since
+counts_now base [] t c now = now
+counts_now base (event ∷ rest) t c now = inl now
+
+pub only_now : (base : Image) (events : List Event) (c : Image) → left_since base events (length events) c → may_leave base events c
+unfolding left_since
+only_now base [] c left = left
+only_now base (event ∷ rest) c (inl now) = now
+only_now base (event ∷ rest) c (inr (late, left)) = absurd (omega (arith, late))
+
+pub torn_by : (base : Image) (area : Area) (at : ℕ) (bytes : List ℕ) (took : Bool) (rest : List Event) → Torn area at bytes (content base rest) (content base (Write area at bytes took ∷ rest))
+unfolding content
+torn_by base area at bytes true rest = torn_put area at bytes (content base rest)
+torn_by base area at bytes false rest = torn_same area at bytes (content base rest)
+
+pub content_may_stay : (base : Image) (events : List Event) → may_leave base events (content base events)
+unfolding content may_leave
+content_may_stay base [] = refl
+content_may_stay base (Write area at bytes took ∷ rest) = (content base rest, content_may_stay base rest, torn_by base area at bytes took rest)
+content_may_stay base (Sync area ∷ rest) = (content_may_stay base rest, refl)
+
+-- a write
+pub shows_written : (base : Image) (area : Area) (at : ℕ) (bytes : List ℕ) (rest : List Event) → Shows (content base (Write area at bytes true ∷ rest) area) at bytes
+unfolding content
+shows_written base area at bytes rest = put_shows (content base rest) area at bytes
+
+pub write_follows : (base : Image) (area : Area) (at : ℕ) (bytes : List ℕ) (took : Bool) (rest : List Event) → Follows (Torn area at bytes) (may_leave base rest) (may_leave base (Write area at bytes took ∷ rest))
+unfolding may_leave
+write_follows base area at bytes took rest = record { each = λ c left. left }
+
+pub lost_follows : (base : Image) (area : Area) (at : ℕ) (bytes : List ℕ) (events : List Event) → Follows (Torn area at bytes) (may_leave base events) (may_leave base events)
+lost_follows base area at bytes events = record { each = λ c left. (c, left, torn_same area at bytes c) }
+
+-- a sync
+pub content-sync : (base : Image) (area : Area) (rest : List Event) → content base (Sync area ∷ rest) ≡ content base rest
+unfolding content
+content-sync base area rest = refl
+
+pub sync_durable : (base : Image) (area : Area) (rest : List Event) → IsDurable area (content base rest) (may_leave base (Sync area ∷ rest))
+unfolding may_leave
+sync_durable base area rest = record { each = λ c (left, same). same }
+
+pub sync_adds_none : (base : Image) (area : Area) (rest : List Event) → AddsNone (may_leave base rest) (may_leave base (Sync area ∷ rest))
+unfolding may_leave
+sync_adds_none base area rest = record { each = λ c (left, same). left }
+
+pub adds_none : (base : Image) (events : List Event) → AddsNone (may_leave base events) (may_leave base events)
+adds_none base events = record { each = λ c left. left }
+
+-- time goes on by one event, or stands
+pub elapses : (base : Image) (event : Event) (rest : List Event) → Elapses (length rest) (length (event ∷ rest)) (left_since base rest) (left_since base (event ∷ rest)) (may_leave base (event ∷ rest))
+unfolding left_since
+elapses base event rest = record {
+  later = omega arith;
+  each = λ t c le left. since t c left;
+  keeps = λ t c le left. inr (le, left);
+}
+  where
+    since : (t : ℕ) (c : Image) → may_leave base (event ∷ rest) c ⊎ ((t ≤ length rest) × left_since base rest t c) → left_since base rest t c ⊎ may_leave base (event ∷ rest) c
+    since t c (inl now) = inr now
+    since t c (inr (late, left)) = inl left
+
+pub stands : (base : Image) (events : List Event) → Elapses (length events) (length events) (left_since base events) (left_since base events) (may_leave base events)
+stands base events = record { later = omega arith; each = λ t c le left. inl left; keeps = λ t c le left. left }

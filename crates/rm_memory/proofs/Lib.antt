@@ -1,0 +1,4 @@
+pub mod PutLemmas
+pub mod HistoryLaws
+pub mod CrashLaws
+pub mod NoteLemmas

@@ -1,0 +1,5 @@
+pub mod Puts
+pub mod Areas
+pub mod History
+pub mod Crashes
+pub mod Notes
