@@ -72,3 +72,12 @@ elapses base event rest = record {
 
 pub stands : (base : Image) (events : List Event) → Elapses (length events) (length events) (left_since base events) (left_since base events) (may_leave base events)
 stands base events = record { later = omega arith; each = λ t c le left. inl left; keeps = λ t c le left. left }
+
+-- the content after a write
+pub content-took : (base : Image) (area : Area) (at : ℕ) (bytes : List ℕ) (rest : List Event) → content base (Write area at bytes true ∷ rest) ≡ put (content base rest) area at bytes
+unfolding content
+content-took base area at bytes rest = refl
+
+pub content-lost : (base : Image) (area : Area) (at : ℕ) (bytes : List ℕ) (rest : List Event) → content base (Write area at bytes false ∷ rest) ≡ content base rest
+unfolding content
+content-lost base area at bytes rest = refl

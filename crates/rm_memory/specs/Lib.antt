@@ -3,3 +3,4 @@ pub mod Areas
 pub mod History
 pub mod Crashes
 pub mod Notes
+pub mod Mediums

@@ -2,4 +2,7 @@
 #![tactic(auto)]
 
 mod areas;
+mod contents;
+mod medium;
 mod notes;
+mod syncs;
