@@ -4,9 +4,10 @@ use Rattle.std.proofs.lemmas.Bool.{and_parts, or_from, or_left, or_right, or_cas
 use Rattle.rm_types.specs.declared.areas.Area.{Area}
 use Rattle.rm_outside.specs.Areas.{is_blocked}
 use Rattle.rm_outside.specs.Images.{Bytes, Image, Torn}
+use Rattle.rm_memory.specs.declared.crash.TheConstants.{FILLING}
 use Rattle.rm_memory.specs.Puts.{is_same, put_bytes, put}
 use Rattle.rm_memory.specs.History.{Event, Write, Sync, content, may_leave}
-use Rattle.rm_memory.specs.Crashes.{none, with_area, unsynced, bit, filling, applies, fills, after_write, left}
+use Rattle.rm_memory.specs.Crashes.{none, with_area, unsynced, bit, applies, fills, after_write, left}
 use Rattle.rm_memory.proofs.PutLemmas.{same-refl, same_true, put-other, torn_same, torn_put, torn_filled}
 
 -- an area of its own, or another
@@ -23,7 +24,7 @@ put_agrees x y area at bytes other same = elim (is_same area other) as (λ v. (i
 -- a write of another area changes nothing of this one, whatever becomes of it
 after_write-other : (applied filled : Bool) (image : Image) (area : Area) (at : ℕ) (bytes : List ℕ) (other : Area) → (other ≡ area → ⊥) → after_write applied filled image area at bytes other ≡ image other
 after_write-other true filled image area at bytes other differs = put-other image area at bytes other differs
-after_write-other false true image area at bytes other differs = put-other image area at (replicate (length bytes) filling) other differs
+after_write-other false true image area at bytes other differs = put-other image area at (replicate (length bytes) FILLING) other differs
 after_write-other false false image area at bytes other differs = refl
 
 content_write-other : (base : Image) (area : Area) (at : ℕ) (bytes : List ℕ) (took : Bool) (rest : List Event) (other : Area) → (other ≡ area → ⊥) → content base (Write area at bytes took ∷ rest) other ≡ content base rest other
@@ -68,7 +69,7 @@ torn_after outcome true synced image area at bytes = torn_put area at bytes imag
 torn_after outcome false synced image area at bytes =
     let P : Bool → Type 0 = λ v. fills outcome synced area ≡ v → Torn area at bytes image (after_write false v image area at bytes) in
     elim (fills outcome synced area) as P [
-      | true ↦ λ filled. torn_filled area at bytes filling image (not-true (is_blocked area) (and_parts _ _ (and_parts _ _ filled).1).1)
+      | true ↦ λ filled. torn_filled area at bytes FILLING image (not-true (is_blocked area) (and_parts _ _ (and_parts _ _ filled).1).1)
       | false ↦ λ _. torn_same area at bytes image
     ] refl
 

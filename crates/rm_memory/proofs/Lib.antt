@@ -2,3 +2,4 @@ pub mod PutLemmas
 pub mod HistoryLaws
 pub mod CrashLaws
 pub mod NoteLemmas
+pub mod ReplayLemmas

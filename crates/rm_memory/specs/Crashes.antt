@@ -3,6 +3,7 @@ use Rattle.std.specs.Prelude.{ℕ, ◌+◌, ◌/◌, ◌%◌, ◌^◌, ◌==◌,
 use Rattle.rm_types.specs.declared.areas.Area.{Area}
 use Rattle.rm_outside.specs.Areas.{is_blocked}
 use Rattle.rm_outside.specs.Images.{Image}
+use Rattle.rm_memory.specs.declared.crash.TheConstants.{FILLING, CHOICES}
 use Rattle.rm_memory.specs.Puts.{is_same, put}
 use Rattle.rm_memory.specs.History.{Event, Write, Sync}
 
@@ -25,22 +26,18 @@ unsynced (Sync area ∷ rest) synced = unsynced rest (with_area synced area)
 abbrev pub bit : ℕ → ℕ → Bool
 bit outcome i = (outcome / 2 ^ i) % 2 == 1
 
--- the byte that fills the range of a write that is not applied
-abbrev pub filling : ℕ
-filling = 0x5a
-
 -- A write is applied: a synced one where it took, and of the others those that their bit chooses.
 abbrev pub applies : ℕ → ℕ → Bool → Bool → Bool
-applies outcome number synced took = if synced then took else bit outcome (number % 63)
+applies outcome number synced took = if synced then took else bit outcome (number % CHOICES)
 
--- The range of a write that is not applied is filled: where bit 63 is set, outside the areas of blocks.
+-- The range of a write that is not applied is filled: where the bit behind the choices is set, outside the areas of blocks.
 abbrev pub fills : ℕ → Bool → Area → Bool
-fills outcome synced area = not synced && (bit outcome 63 && not (is_blocked area))
+fills outcome synced area = not synced && (bit outcome CHOICES && not (is_blocked area))
 
 -- the image once that write is applied, fills its range or is lost
 abbrev pub after_write : Bool → Bool → Image → Area → ℕ → List ℕ → Image
 after_write applied filled image area at bytes =
-    if applied then put image area at bytes else (if filled then put image area at (replicate (length bytes) filling) else image)
+    if applied then put image area at bytes else (if filled then put image area at (replicate (length bytes) FILLING) else image)
 
 -- the image that this outcome leaves, where these areas were synced later
 unfoldable pub left : ℕ → Image → List Event → (Area → Bool) → Image

@@ -70,6 +70,21 @@ pub fn put_bytes(areas: &mut PerArea<Vec<u8>>, area: Area, at: usize, bytes: &[u
     }
 }
 
+// Puts the bytes, and makes the room that they want.
+pub fn write_bytes(
+    areas: &mut PerArea<Vec<u8>>,
+    area: Area,
+    at: usize,
+    bytes: &[u8],
+) -> Result<(), NoMemory>
+    requires { at + length bytes.now ≤ 2 ^ 49 }
+    ensures { OnOk result (image_of areas.new ≡ put (image_of areas.old) area at bytes.now) }
+{
+    make_room(areas, area, at + bytes.len())?;
+    put_bytes(areas, area, at, bytes);
+    Ok(())
+}
+
 // The same bytes again.
 pub fn copy_of(alloc: Global, areas: &PerArea<Vec<u8>>) -> Result<PerArea<Vec<u8>>, NoMemory>
     ensures { IfOk result (λ copy. image_of copy ≡ image_of areas.now) }

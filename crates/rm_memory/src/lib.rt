@@ -3,6 +3,7 @@
 
 mod areas;
 mod contents;
+mod crash;
 mod medium;
 mod notes;
 mod syncs;
