@@ -3,3 +3,4 @@ pub mod HistoryLaws
 pub mod CrashLaws
 pub mod NoteLemmas
 pub mod ReplayLemmas
+pub mod PlanLemmas

@@ -4,3 +4,4 @@ pub mod History
 pub mod Crashes
 pub mod Notes
 pub mod Mediums
+pub mod Plans

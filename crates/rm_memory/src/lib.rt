@@ -6,4 +6,5 @@ mod contents;
 mod crash;
 mod medium;
 mod notes;
+mod plan;
 mod syncs;
