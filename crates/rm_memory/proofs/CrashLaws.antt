@@ -1,14 +1,14 @@
 -- What an outcome leaves is one of the images that a crash may leave.
-use Rattle.std.proofs.Common.{◌≡◌, ◌⊎◌, inl, inr, ⊎_elim, ℕ, ◌&&◌, ◌||◌, Bool, true, false, not, List, [], ◌∷◌, length, replicate, if◌then◌else◌, refl, sym, ◌∙◌, ap}
-use Rattle.std.proofs.lemmas.Bool.{and_parts, or_from, or_left, or_right, or_cases, not-true}
+use Rattle.std.proofs.Common.{◌≡◌, ◌⊎◌, inl, inr, ℕ, Bool, true, false, List, [], ◌∷◌, length, replicate, if◌then◌else◌, refl, sym, ◌∙◌, ap}
+use Rattle.std.proofs.lemmas.Bool.{and_parts, or_left, or_right, not-true}
 use Rattle.rm_types.specs.declared.areas.Area.{Area}
 use Rattle.rm_outside.specs.Areas.{is_blocked}
 use Rattle.rm_outside.specs.Images.{Bytes, Image, Torn}
 use Rattle.rm_memory.specs.declared.crash.TheConstants.{FILLING}
 use Rattle.rm_memory.specs.Puts.{is_same, put_bytes, put}
 use Rattle.rm_memory.specs.History.{Event, Write, Sync, content, may_leave}
-use Rattle.rm_memory.specs.Crashes.{none, with_area, unsynced, bit, applies, fills, after_write, left}
-use Rattle.rm_memory.proofs.PutLemmas.{same-refl, same_true, put-other, torn_same, torn_put, torn_filled}
+use Rattle.rm_memory.specs.Crashes.{with_area, unsynced, applies, fills, after_write, left}
+use Rattle.rm_memory.specs.PutLaws.{same-refl, put-other, torn_same, torn_put, torn_filled}
 
 -- an area of its own, or another
 same_cases : (a b : Area) → (is_same a b ≡ true) ⊎ (is_same a b ≡ false)
@@ -56,8 +56,8 @@ left-synced outcome base (Write other at bytes took ∷ rest) synced area is_lat
     elim (synced other) as P [
       | true ↦ λ _. synced_write outcome (unsynced rest synced) (left outcome base rest synced) base other at bytes took rest area before
       | false ↦ λ is_not.
-        let differs = differ synced area other is_late is_not in
-        after_write-other (bit_of took rest synced) (fills outcome false other) (left outcome base rest synced) other at bytes area differs ∙ before ∙ sym (content_write-other base other at bytes took rest area differs)
+          let differs = differ synced area other is_late is_not in
+          after_write-other (bit_of took rest synced) (fills outcome false other) (left outcome base rest synced) other at bytes area differs ∙ before ∙ sym (content_write-other base other at bytes took rest area differs)
     ] refl
   where
     bit_of : Bool → List Event → (Area → Bool) → Bool

@@ -1,6 +1,6 @@
-pub mod PutLemmas
 pub mod HistoryLaws
 pub mod CrashLaws
 pub mod NoteLemmas
 pub mod ReplayLemmas
 pub mod PlanLemmas
+pub mod StepLaws

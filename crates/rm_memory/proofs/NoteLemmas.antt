@@ -1,5 +1,5 @@
 -- One note more.
-use Rattle.std.proofs.Common.{if◌then◌else◌, ◌≡◌, inl, inr, ltb, length-take, length-take-le, ◌<◌, ◌≤◌, ℕ, ◌+◌, ◌-◌, zero, suc, ◌||◌, Bool, true, false, List, [], ◌∷◌, ◌++◌, length, get_or, take, drop, refl, sym, ◌∙◌, ap, arith, length-append, length-drop, append_assoc}
+use Rattle.std.proofs.Common.{if◌then◌else◌, ◌≡◌, inl, inr, ltb, length-take, length-take-le, ◌<◌, ◌≤◌, ℕ, ◌+◌, ◌||◌, Bool, true, false, List, [], ◌∷◌, ◌++◌, length, get_or, take, drop, refl, sym, ◌∙◌, ap, arith, length-append, length-drop}
 use Rattle.std.proofs.lemmas.List.{nil_from_length, take_all, drop_all, take-append-le, drop-append-le, take_more}
 use Rattle.std.proofs.lemmas.Bool.{cases_lt, le-ltb, lt-ltb, or_right}
 use Rattle.rm_types.specs.declared.areas.Area.{Area}
@@ -9,7 +9,6 @@ use Rattle.rm_memory.specs.declared.notes.Note.TheVariants.{Wrote, Synced}
 use Rattle.rm_memory.specs.Puts.{is_same}
 use Rattle.rm_outside.specs.Images.{Image}
 use Rattle.rm_memory.specs.History.{Event, Write, Sync, content}
-use Rattle.rm_memory.specs.Crashes.{none, with_area}
 use Rattle.rm_memory.specs.Notes.{events_onto, history, total, synced_in}
 
 events_wrote : (done : List Event) (notes : List Note) (put : Put) (old new : List ℕ) → total notes ≡ length old → put.len ≡ length new

@@ -1,7 +1,10 @@
 pub mod Puts
+pub mod PutLaws
 pub mod Areas
 pub mod History
 pub mod Crashes
 pub mod Notes
 pub mod Mediums
 pub mod Plans
+pub mod Volumes
+pub mod Laws

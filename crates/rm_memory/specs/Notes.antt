@@ -1,5 +1,5 @@
 -- The notes of a volume in memory, oldest first, and the events that they stand for, newest first.
-use Rattle.std.specs.Prelude.{ℕ, ◌+◌, Bool, false, List, [], ◌∷◌, take, drop}
+use Rattle.std.specs.Prelude.{ℕ, ◌+◌, Bool, List, [], ◌∷◌, take, drop}
 use Rattle.rm_types.specs.declared.areas.Area.{Area}
 use Rattle.rm_memory.specs.declared.notes.Note.{Note}
 use Rattle.rm_memory.specs.declared.notes.Note.TheVariants.{Wrote, Synced}

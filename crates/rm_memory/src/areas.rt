@@ -1,7 +1,8 @@
 //! One value for each area.
 
-ghost use Rattle.std.specs.Prelude.{◌≡◌, if◌then◌else◌};
+ghost use Rattle.std.specs.Prelude.{◌≡◌, ◌≤◌, if◌then◌else◌};
 ghost use Rattle.rm_types.specs.declared.areas.Area.{Area};
+ghost use Rattle.rm_outside.specs.Faults.{Rises};
 ghost use Rattle.rm_outside.specs.Counts.{raised};
 ghost use Rattle.rm_memory.specs.Puts.{is_same};
 ghost use Rattle.rm_memory.specs.Areas.{of_area};
@@ -33,9 +34,24 @@ impl<T> PerArea<T> {
     }
 }
 
+/// Counts of 0.
+pub fn no_counts() -> PerArea<u64>
+    ensures { (area : Area) → of_area result area ≡ 0 }
+{
+    PerArea {
+        master: 0,
+        log: 0,
+        data: 0,
+        space: 0,
+        copy: 0,
+    }
+}
+
 /// Raises the count of that area by one. At its last value it stays.
 pub fn raise(counts: &mut PerArea<u64>, area: Area)
-    ensures { (other : Area) → of_area counts.new other ≡ (if is_same area other then raised (of_area counts.old other) 1 else of_area counts.old other) }
+    ensures rises { Rises (of_area counts.old area) (of_area counts.new area) }
+    ensures kept { (other : Area) → of_area counts.old other ≤ of_area counts.new other }
+    ensures exact { (other : Area) → of_area counts.new other ≡ (if is_same area other then raised (of_area counts.old other) 1 else of_area counts.old other) }
 {
     match area {
         Area::Master => counts.master = counts.master.saturating_add(1),

@@ -3,8 +3,13 @@
 
 mod areas;
 mod contents;
+mod counts;
 mod crash;
 mod medium;
 mod notes;
 mod plan;
 mod syncs;
+mod volume;
+
+pub use crash::FILLING;
+pub use volume::MemVolume;

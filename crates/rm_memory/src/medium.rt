@@ -5,10 +5,12 @@ ghost use Rattle.std.specs.Prelude.{◌≡◌, ◌+◌, ◌≤◌, ◌^◌, ◌�
 ghost use Rattle.rm_outside.specs.Images.{Shows};
 ghost use Rattle.rm_memory.specs.Areas.{image_of};
 ghost use Rattle.rm_memory.specs.History.{content, Write, Sync};
+ghost use Rattle.rm_memory.specs.Crashes.{none, left};
 ghost use Rattle.rm_memory.specs.Notes.{history, total};
 
 use crate::areas::PerArea;
 use crate::contents::{copy_of, make_room, no_bytes, put_bytes, read_bytes};
+use crate::crash::image_left;
 use crate::notes::{Note, Put};
 use rm_types::{Area, NoMemory};
 use std::alloc::Global;
@@ -53,6 +55,24 @@ impl Medium {
             notes: Vec::new(alloc),
             bytes: Vec::new(alloc),
         })
+    }
+
+    /// Where its memory comes from.
+    pub fn allocator(&self) -> Global {
+        *self.bytes.allocator()
+    }
+
+    /// The image that the outcome leaves.
+    pub fn left(&self, outcome: u64) -> Result<PerArea<Vec<u8>>, NoMemory>
+        ensures { IfOk result (λ image. image_of image ≡ left outcome (base_image self.now) (events self.now) none) }
+    {
+        image_left(
+            self.allocator(),
+            outcome,
+            &self.base,
+            &self.notes,
+            &self.bytes,
+        )
     }
 
     /// The bytes at that offset.

@@ -1,4 +1,4 @@
-use Rattle.std.proofs.Common.{◌≡◌, ◌≤◌, ◌+◌, Bool, true, false, if◌then◌else◌, ℕ, List, take, drop, ltb, ap, arith, sym, ◌∙◌}
+use Rattle.std.proofs.Common.{◌≡◌, ◌≤◌, ◌+◌, Bool, true, false, if◌then◌else◌, ℕ, take, drop, ltb, ap, arith, sym, ◌∙◌}
 use Rattle.rm_memory.specs.Areas.{image_of}
 use Rattle.rm_memory.specs.Crashes.{unsynced, left}
 use Rattle.rm_memory.specs.Notes.{history, synced_in}
@@ -35,24 +35,24 @@ loop-index-preserved c =
     let base = image_of c.args.base.now in
     elim c.match-note.branch [
       | in-Wrote+in_ok-leave w ↦
-        let put = w.in-Wrote.put in
-        let told : synced_in (drop index notes) put.area ≡ ltb index w.get.result.now = c.last_syncs-syncs.ensures put.area index ∙ ap (ltb index) (sym w.get.ensures) in
-        record {
-          start = w.start-is ∙ total_next notes bytes index start note put inside read w.in-Wrote.is so_far.start c.requires;
-          few = omega (arith, one_at_most (ltb index w.get.result.now), w.one_unless-number.ensures);
-          number = w.number-is ∙ number_next notes bytes index start note put inside read w.in-Wrote.is so_far.start c.requires c.loop-index.number w.one_unless-number.result _ so_far.number told w.one_unless-number.ensures ∙ ap (λ (s : ℕ). unsynced (history (take (index + 1) notes) (take s bytes)) (synced_in (drop (index + 1) notes))) (sym w.start-is);
-          image = ap image_of w.image-is
-          ∙ image_next notes bytes index start note put inside read w.in-Wrote.is so_far.start c.requires c.args.outcome c.loop-index.number base (image_of c.loop-index.image) (image_of w.leave.new.image) _ w.piece-bytes_put.result.now so_far.number told so_far.image w.piece-bytes_put.ensures.value w.in_ok-leave.ensures
-          ∙ ap (λ (s : ℕ). left c.args.outcome base (history (take (index + 1) notes) (take s bytes)) (synced_in (drop (index + 1) notes))) (sym w.start-is);
-        }
+          let put = w.in-Wrote.put in
+          let told : synced_in (drop index notes) put.area ≡ ltb index w.get.result.now = c.last_syncs-syncs.ensures put.area index ∙ ap (ltb index) (sym w.get.ensures) in
+          record {
+            start = w.start-is ∙ total_next notes bytes index start note put inside read w.in-Wrote.is so_far.start c.requires;
+            few = omega (arith, one_at_most (ltb index w.get.result.now), w.one_unless-number.ensures);
+            number = w.number-is ∙ number_next notes bytes index start note put inside read w.in-Wrote.is so_far.start c.requires c.loop-index.number w.one_unless-number.result _ so_far.number told w.one_unless-number.ensures ∙ ap (λ (s : ℕ). unsynced (history (take (index + 1) notes) (take s bytes)) (synced_in (drop (index + 1) notes))) (sym w.start-is);
+            image = ap image_of w.image-is
+                ∙ image_next notes bytes index start note put inside read w.in-Wrote.is so_far.start c.requires c.args.outcome c.loop-index.number base (image_of c.loop-index.image) (image_of w.leave.new.image) _ w.piece-bytes_put.result.now so_far.number told so_far.image w.piece-bytes_put.ensures.value w.in_ok-leave.ensures
+                ∙ ap (λ (s : ℕ). left c.args.outcome base (history (take (index + 1) notes) (take s bytes)) (synced_in (drop (index + 1) notes))) (sym w.start-is);
+          }
       | in_default w ↦
-        let area = w.in_default.field-0 in
-        record {
-          start = w.start-is ∙ so_far.start ∙ total_sync notes bytes index start note area inside read w.in_default.is;
-          few = omega arith;
-          number = w.number-is ∙ so_far.number ∙ unsynced_sync notes bytes index start note area inside read w.in_default.is ∙ ap (λ (s : ℕ). unsynced (history (take (index + 1) notes) (take s bytes)) (synced_in (drop (index + 1) notes))) (sym w.start-is);
-          image = ap image_of w.image-is ∙ so_far.image ∙ left_sync notes bytes index start note area inside read w.in_default.is c.args.outcome base ∙ ap (λ (s : ℕ). left c.args.outcome base (history (take (index + 1) notes) (take s bytes)) (synced_in (drop (index + 1) notes))) (sym w.start-is);
-        }
+          let area = w.in_default.field-0 in
+          record {
+            start = w.start-is ∙ so_far.start ∙ total_sync notes bytes index start note area inside read w.in_default.is;
+            few = omega arith;
+            number = w.number-is ∙ so_far.number ∙ unsynced_sync notes bytes index start note area inside read w.in_default.is ∙ ap (λ (s : ℕ). unsynced (history (take (index + 1) notes) (take s bytes)) (synced_in (drop (index + 1) notes))) (sym w.start-is);
+            image = ap image_of w.image-is ∙ so_far.image ∙ left_sync notes bytes index start note area inside read w.in_default.is c.args.outcome base ∙ ap (λ (s : ℕ). left c.args.outcome base (history (take (index + 1) notes) (take s bytes)) (synced_in (drop (index + 1) notes))) (sym w.start-is);
+          }
     ]
 
 pub returns : goal.returns

@@ -1,4 +1,4 @@
-use Rattle.std.proofs.Common.{ap, arith, length, List, ℕ, ◌≡◌}
+use Rattle.std.proofs.Common.{arith}
 use Rattle.rm_memory.proofs.PlanLemmas.{fallen_more, rest_more}
 use Rattle.rm_memory.proofs.plan.count_down.Goals as goal
 

@@ -1,4 +1,4 @@
-use Rattle.std.proofs.Common.{ℕ, List, [], drop, ◌∙◌, sym, ap, subst, arith, rules, ltb}
+use Rattle.std.proofs.Common.{List, [], ◌∙◌, sym, ap, arith, ltb}
 use Rattle.std.proofs.lemmas.Bool.{le-ltb}
 use Rattle.std.proofs.lemmas.List.{drop_all}
 use Rattle.rm_memory.specs.declared.notes.Note.{Note}
@@ -19,13 +19,13 @@ loop-index-preserved c =
     let note = c.index-notes-index.result in
     elim c.if-is_sync_of.branch [
       | then-is_sync_of w ↦
-        record {
-          short = omega arith;
-          each = λ from. sync_step c.args.notes.now c.loop-index.index c.loop-index.end note c.args.area c.loop-index-test.true c.index-notes-index.is (sym c.is_sync_of.ensures ∙ w.if-is_sync_of.true) so_far.short so_far.each from ∙ ap (ltb from) (sym w.end-is);
-        }
+          record {
+            short = omega arith;
+            each = λ from. sync_step c.args.notes.now c.loop-index.index c.loop-index.end note c.args.area c.loop-index-test.true c.index-notes-index.is (sym c.is_sync_of.ensures ∙ w.if-is_sync_of.true) so_far.short so_far.each from ∙ ap (ltb from) (sym w.end-is);
+          }
       | else-is_sync_of w ↦
-        record {
-          short = omega arith;
-          each = λ from. other_step c.args.notes.now c.loop-index.index c.loop-index.end note c.args.area c.loop-index-test.true c.index-notes-index.is (sym c.is_sync_of.ensures ∙ w.if-is_sync_of.false) so_far.short so_far.each from ∙ ap (ltb from) (sym w.end-is);
-        }
+          record {
+            short = omega arith;
+            each = λ from. other_step c.args.notes.now c.loop-index.index c.loop-index.end note c.args.area c.loop-index-test.true c.index-notes-index.is (sym c.is_sync_of.ensures ∙ w.if-is_sync_of.false) so_far.short so_far.each from ∙ ap (ltb from) (sym w.end-is);
+          }
     ]

@@ -1,9 +1,8 @@
-use Rattle.std.proofs.Common.{◌≡◌, ◌∷◌, ◌∙◌, List, sym, ap, refl}
+use Rattle.std.proofs.Common.{◌∷◌, ◌∙◌, List, sym, ap, refl}
 use Rattle.rm_outside.specs.Images.{Image}
 use Rattle.rm_memory.specs.Puts.{put}
 use Rattle.rm_memory.specs.Areas.{image_of}
 use Rattle.rm_memory.specs.History.{Event, content, Write}
-use Rattle.rm_memory.specs.Notes.{history}
 use Rattle.rm_memory.specs.Mediums.{events}
 use Rattle.rm_memory.proofs.NoteLemmas.{noted_history, noted_total}
 use Rattle.rm_memory.proofs.HistoryLaws.{content-took, content-lost}
