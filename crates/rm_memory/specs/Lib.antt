@@ -5,6 +5,8 @@ pub mod History
 pub mod Crashes
 pub mod Notes
 pub mod Mediums
+pub mod Calls
 pub mod Plans
+pub mod Streams
 pub mod Volumes
 pub mod Laws

@@ -9,7 +9,7 @@ use Rattle.rm_memory.specs.Areas.{of_area}
 use Rattle.rm_memory.specs.History.{Event, content, may_leave}
 use Rattle.rm_memory.specs.Crashes.{none, left}
 use Rattle.rm_memory.specs.Mediums.{events, base_image, HasRoom, HasRoomForSync}
-use Rattle.rm_memory.specs.Plans.{lists}
+use Rattle.rm_memory.specs.Plans.{lists_call}
 
 -- what was done to it, newest first
 abbrev pub events_of : MemVolume → List Event
@@ -37,7 +37,7 @@ faults_of volume = of_area volume.faults
 
 -- the n-th call from now is listed, from 1
 abbrev pub is_listed : MemVolume → ℕ → Bool
-is_listed volume = lists volume.plan
+is_listed volume = lists_call volume.plan
 
 -- it has stopped: each call fails
 abbrev pub has_stopped : MemVolume → Bool

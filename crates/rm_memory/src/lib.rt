@@ -2,14 +2,20 @@
 #![tactic(auto)]
 
 mod areas;
+mod calls;
 mod contents;
 mod counts;
 mod crash;
 mod medium;
 mod notes;
 mod plan;
+mod streams;
 mod syncs;
 mod volume;
 
 pub use crash::FILLING;
+pub use streams::{MemSink, MemSource};
 pub use volume::MemVolume;
+
+#[cfg(test)]
+mod tests;

@@ -2,8 +2,9 @@
 
 ghost use Rattle.std.specs.Prelude.{◌≡◌, ℕ, ◌+◌, ◌-◌, ◌≤◌, ◌==◌, ◌||◌, [], map, false, OnOk, OnErr};
 ghost use Rattle.rm_outside.specs.Counts.{raised};
-ghost use Rattle.rm_memory.specs.Plans.{lists, fails_call, fails_write};
+ghost use Rattle.rm_memory.specs.Plans.{lists_call, fails_call, fails_write};
 
+use crate::calls::count_call;
 use rm_types::NoMemory;
 use std::alloc::Global;
 
@@ -17,19 +18,10 @@ pub struct Plan {
     pub writes: u64,
 }
 
-// One call more: each number falls by one, and stays at 0.
-fn count_down(calls: &mut [u64])
-    ensures { calls.new ≡ map (λ n. n - 1) calls.old }
-{
-    for call in calls.iter_mut() {
-        *call = call.saturating_sub(1);
-    }
-}
-
 impl Plan {
     /// No call fails.
     pub fn new(alloc: Global) -> Plan
-        ensures none { (n : ℕ) → lists result n ≡ false }
+        ensures none { (n : ℕ) → lists_call result n ≡ false }
         ensures stops { result.stops_in ≡ 0 }
         ensures stopped { result.stopped ≡ false }
         ensures writes { result.writes ≡ 0 }
@@ -44,8 +36,8 @@ impl Plan {
 
     /// The n-th call from now fails too.
     pub fn fail_call(&mut self, n: u64) -> Result<(), NoMemory>
-        ensures ok { OnOk result ((k : ℕ) → lists self.new k ≡ (lists self.old k || (n == k))) }
-        ensures err { OnErr result ((k : ℕ) → lists self.new k ≡ lists self.old k) }
+        ensures ok { OnOk result ((k : ℕ) → lists_call self.new k ≡ (lists_call self.old k || (n == k))) }
+        ensures err { OnErr result ((k : ℕ) → lists_call self.new k ≡ lists_call self.old k) }
         ensures stops { self.new.stops_in ≡ self.old.stops_in }
         ensures stopped { self.new.stopped ≡ self.old.stopped }
         ensures writes { self.new.writes ≡ self.old.writes }
@@ -56,7 +48,7 @@ impl Plan {
 
     /// The n-th write from now stops the volume, or none does where n is 0.
     pub fn stop_at(&mut self, n: u64)
-        ensures listed { (k : ℕ) → lists self.new k ≡ lists self.old k }
+        ensures listed { (k : ℕ) → lists_call self.new k ≡ lists_call self.old k }
         ensures stops { self.new.stops_in ≡ n }
         ensures stopped { self.new.stopped ≡ self.old.stopped }
         ensures writes { self.new.writes ≡ 0 }
@@ -68,20 +60,19 @@ impl Plan {
     /// Counts a call, and answers whether it fails.
     pub fn call(&mut self) -> bool
         ensures due { result ≡ fails_call self.old }
-        ensures listed { (n : ℕ) → 1 ≤ n → lists self.new n ≡ lists self.old (n + 1) }
+        ensures listed { (n : ℕ) → 1 ≤ n → lists_call self.new n ≡ lists_call self.old (n + 1) }
         ensures stops { self.new.stops_in ≡ self.old.stops_in }
         ensures stopped { self.new.stopped ≡ self.old.stopped }
         ensures writes { self.new.writes ≡ self.old.writes }
     {
-        let listed = self.fails.contains(&1);
-        count_down(&mut self.fails);
+        let listed = count_call(&mut self.fails);
         self.stopped || listed
     }
 
     /// Counts a write, and answers whether it fails.
     pub fn write_call(&mut self) -> bool
         ensures due { result ≡ fails_write self.old }
-        ensures listed { (n : ℕ) → 1 ≤ n → lists self.new n ≡ lists self.old (n + 1) }
+        ensures listed { (n : ℕ) → 1 ≤ n → lists_call self.new n ≡ lists_call self.old (n + 1) }
         ensures stops { self.new.stops_in ≡ self.old.stops_in - 1 }
         ensures stopped { self.new.stopped ≡ (self.old.stopped || (self.old.stops_in == 1)) }
         ensures writes { self.new.writes ≡ raised self.old.writes 1 }

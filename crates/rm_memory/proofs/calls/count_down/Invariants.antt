@@ -1,5 +1,5 @@
 use Rattle.std.proofs.Common.{◌≡◌, ◌-◌, map, take, drop}
-use Rattle.rm_memory.proofs.plan.count_down.Given as goal
+use Rattle.rm_memory.proofs.calls.count_down.Given as goal
 
 -- those so far have fallen
 abbrev pub invariant-loop-call : goal.invariant-loop-call
