@@ -1,5 +1,5 @@
 -- A volume in memory: its images, its counts, and which of its calls fail.
-use Rattle.std.specs.Prelude.{◌≡◌, ℕ, ◌+◌, ◌-◌, ◌≤◌, ◌==◌, ◌||◌, ◌&&◌, Bool, false, List, [], Result, is_err, if◌then◌else◌}
+use Rattle.std.specs.Prelude.{◌≡◌, ℕ, ◌+◌, ◌-◌, ◌<◌, ◌≤◌, ◌==◌, ◌||◌, ◌&&◌, Bool, false, List, [], vec_len, vec_capacity, Result, is_err, if◌then◌else◌}
 use Rattle.rm_types.specs.declared.areas.Area.{Area}
 use Rattle.rm_outside.specs.Images.{Image}
 use Rattle.rm_outside.specs.Counts.{raised}
@@ -66,6 +66,10 @@ HasRoomFor volume = HasRoom volume.medium
 -- a sync wants no memory
 abbrev pub HasRoomToSync : MemVolume → Type 0
 HasRoomToSync volume = HasRoomForSync volume.medium
+
+-- one call more to be listed wants no memory
+abbrev pub HasRoomToList : MemVolume → Type 0
+HasRoomToList volume = vec_len volume.plan.fails < vec_capacity volume.plan.fails
 
 -- each listed call is one nearer
 pub record Nears (old new : MemVolume) : Type 0 where

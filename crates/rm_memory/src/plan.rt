@@ -1,6 +1,6 @@
 //! Which calls of a volume fail.
 
-ghost use Rattle.std.specs.Prelude.{◌≡◌, ℕ, ◌+◌, ◌-◌, ◌≤◌, ◌==◌, ◌||◌, [], map, false, OnOk, OnErr};
+ghost use Rattle.std.specs.Prelude.{◌≡◌, ℕ, ◌+◌, ◌-◌, ◌<◌, ◌≤◌, ◌==◌, ◌||◌, [], map, false, vec_len, vec_capacity, IsOk, OnOk, OnErr};
 ghost use Rattle.rm_outside.specs.Counts.{raised};
 ghost use Rattle.rm_memory.specs.Plans.{lists_call, fails_call, fails_write};
 
@@ -38,6 +38,7 @@ impl Plan {
     pub fn fail_call(&mut self, n: u64) -> Result<(), NoMemory>
         ensures ok { OnOk result ((k : ℕ) → lists_call self.new k ≡ (lists_call self.old k || (n == k))) }
         ensures err { OnErr result ((k : ℕ) → lists_call self.new k ≡ lists_call self.old k) }
+        ensures room { vec_len self.old.fails < vec_capacity self.old.fails → IsOk result }
         ensures stops { self.new.stops_in ≡ self.old.stops_in }
         ensures stopped { self.new.stopped ≡ self.old.stopped }
         ensures writes { self.new.writes ≡ self.old.writes }

@@ -8,7 +8,7 @@ ghost use Rattle.rm_outside.specs.Moments.{AddsNone, Follows, IsDurable, Elapses
 ghost use Rattle.rm_outside.specs.Faults.{HasCause};
 ghost use Rattle.rm_outside.specs.Counts.{CountsBlock, CountsBytes, CountsAtMost, raised};
 ghost use Rattle.rm_memory.specs.History.{Write, Sync, content, may_leave, left_since};
-ghost use Rattle.rm_memory.specs.Volumes.{events_of, base_of, content_of, may_leave_of, left_by, faults_of, is_listed, has_stopped, stops_in, writes_of, is_due, is_due_write, HasRoomFor, HasRoomToSync, Nears, KeepsWrites, CountsWrite, CountsFault, KeepsImages, KeepsOthers, IsFresh};
+ghost use Rattle.rm_memory.specs.Volumes.{events_of, base_of, content_of, may_leave_of, left_by, faults_of, is_listed, has_stopped, stops_in, writes_of, is_due, is_due_write, HasRoomFor, HasRoomToSync, HasRoomToList, Nears, KeepsWrites, CountsWrite, CountsFault, KeepsImages, KeepsOthers, IsFresh};
 ghost use Rattle.rm_memory.specs.Mediums.{events, base_image};
 
 use crate::areas::{PerArea, no_counts, raise};
@@ -21,7 +21,10 @@ use std::alloc::Global;
 
 /// A volume in memory that tells its content. It notes each write and each sync, so that it can give any image
 /// that a crash may leave. Calls fail where they were told to ([`MemVolume::fail_call`], [`MemVolume::stop_at`]),
-/// and where memory runs out.
+/// and a write or a sync also where memory runs out.
+///
+/// A write that fails is an unsynced write, of which a read gives nothing, unless memory ran out for it or the
+/// volume had stopped before.
 #[derive(Debug, Drop)]
 pub struct MemVolume {
     medium: Medium,
@@ -64,6 +67,7 @@ impl MemVolume {
         requires { 1 ≤ n }
         ensures ok { OnOk result ((k : ℕ) → is_listed self.new k ≡ (is_listed self.old k || (n == k))) }
         ensures err { OnErr result ((k : ℕ) → is_listed self.new k ≡ is_listed self.old k) }
+        ensures room { HasRoomToList self.old → IsOk result }
         ensures writes { writes_of self.new ≡ writes_of self.old }
         ensures stops { stops_in self.new ≡ stops_in self.old }
         ensures others { KeepsOthers self.old self.new }
