@@ -1,4 +1,4 @@
-use Rattle.std.proofs.Common.{not, sym, ◌∙◌}
+use Rattle.std.proofs.Common.{sym, ◌∙◌}
 use Rattle.rm_memory.specs.Mediums.{events, base_image}
 use Rattle.rm_memory.specs.Volumes.{events_of, base_of}
 use Rattle.rm_memory.proofs.StepLaws.{Written, written, shown}
@@ -6,7 +6,7 @@ use Rattle.rm_memory.proofs.volume.MemVolumeVolume.write.Goals as goal
 use Rattle.rm_memory.proofs.volume.MemVolumeVolume.write.Goals.{After-write}
 
 all : (c : After-write) → Written c.args.area c.args.at c.args.from.now (base_of c.args.self.now) (events_of c.args.self.now) (base_image c.write.new.self) (events c.write.new.self)
-all c = written c.args.area c.args.at c.args.from.now (not c.write_call-due.result) (base_of c.args.self.now) (base_image c.write.new.self) (events_of c.args.self.now) (events c.write.new.self) c.write.result c.write.ensures.base c.write.ensures.ok c.write.ensures.err
+all c = written c.args.area c.args.at c.args.from.now _ (base_of c.args.self.now) (base_image c.write.new.self) (events_of c.args.self.now) (events c.write.new.self) c.write.result c.write.ensures.base c.write.ensures.ok c.write.ensures.err
 
 pub returns-then-due-clause-content : goal.returns-then-due-clause-content
 returns-then-due-clause-content c = (all (goal.at.returns-then-due-clause-content c).After-write).content
