@@ -1,0 +1,6 @@
+pub mod HistoryLaws
+pub mod CrashLaws
+pub mod NoteLemmas
+pub mod ReplayLemmas
+pub mod PlanLemmas
+pub mod StepLaws

@@ -1,0 +1,12 @@
+pub mod Puts
+pub mod PutLaws
+pub mod Areas
+pub mod History
+pub mod Crashes
+pub mod Notes
+pub mod Mediums
+pub mod Calls
+pub mod Plans
+pub mod Streams
+pub mod Volumes
+pub mod Laws
