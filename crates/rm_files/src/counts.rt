@@ -2,7 +2,7 @@
 
 ghost use Rattle.std.specs.Prelude.{◌≡◌, ◌≤◌, ◌<◌, ◌+◌, true, false, IsTrue};
 ghost use Rattle.rm_outside.specs.Faults.{Rises, last_count};
-ghost use Rattle.rm_outside.specs.Counts.{raised, CountsBlock, CountsBytes};
+ghost use Rattle.rm_outside.specs.Counts.{raised, CountsBlock, CountsBytes, CountsAtMost};
 
 use rm_types::Area;
 
@@ -41,6 +41,19 @@ impl Faults {
             data: 0,
             space: 0,
             copy: 0,
+        }
+    }
+
+    /// How often the area has failed.
+    pub fn of(&self, area: Area) -> u64
+        ensures { result ≡ faults_of self.now area }
+    {
+        match area {
+            Area::Master => self.master,
+            Area::Log => self.log,
+            Area::Data => self.data,
+            Area::Space => self.space,
+            Area::Copy => self.copy,
         }
     }
 
@@ -132,10 +145,14 @@ impl Reads {
         ensures blocks { CountsBlock area self.old.blocks self.new.blocks }
         ensures log_bytes { IsTrue answered → CountsBytes area length self.old.log_bytes self.new.log_bytes }
         ensures unanswered { answered ≡ false → self.new.log_bytes ≡ self.old.log_bytes }
+        ensures at_most { answered ≡ false → CountsAtMost area length self.old.log_bytes self.new.log_bytes }
     {
         match area {
             Area::Data => self.blocks = one_more(self.blocks),
-            Area::Log if answered => self.log_bytes = self.log_bytes.saturating_add(length as u64),
+            Area::Log => {
+                let bytes = if answered { length as u64 } else { 0 };
+                self.log_bytes = self.log_bytes.saturating_add(bytes);
+            }
             _ => {}
         }
     }

@@ -39,7 +39,11 @@ impl<R: Files<File = File> + Drop> Folder<R> {
     }
 
     fn open_or_make(&mut self, path: &str) -> io::Result<File> {
-        match OpenOptions::new().read(true).write(true).open(&self.rt, path) {
+        match OpenOptions::new()
+            .read(true)
+            .write(true)
+            .open(&self.rt, path)
+        {
             Err(error) if error.kind() == ErrorKind::NotFound => {
                 self.is_synced = false;
                 File::create_new(&self.rt, path)
@@ -63,7 +67,10 @@ impl Entry {
     }
 
     /// The open file, which is opened here where it is not open yet.
-    fn open<R: Files<File = File> + Drop>(&mut self, folder: &mut Folder<R>) -> io::Result<&mut File> {
+    fn open<R: Files<File = File> + Drop>(
+        &mut self,
+        folder: &mut Folder<R>,
+    ) -> io::Result<&mut File> {
         match &mut self.file {
             Some(file) => Ok(file),
             vacant => Ok(vacant.insert(folder.open(self.path.as_str())?)),

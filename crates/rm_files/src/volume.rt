@@ -50,6 +50,27 @@ impl<R: Files<File = File> + Drop> FileVolume<R> {
         })
     }
 
+    /// How often a call in the area has failed.
+    pub fn faults(&self, area: Area) -> u64
+        ensures { result ≡ faults_of self.now.faults area }
+    {
+        self.faults.of(area)
+    }
+
+    /// How many blocks of Data were read, whether or not they were answered.
+    pub fn data_reads(&self) -> u64
+        ensures { result ≡ self.now.reads.blocks }
+    {
+        self.reads.blocks
+    }
+
+    /// How many bytes of Log were read.
+    pub fn log_reads(&self) -> u64
+        ensures { result ≡ self.now.reads.log_bytes }
+    {
+        self.reads.log_bytes
+    }
+
     /// Counts one fault of the area where its call failed.
     fn answer(&mut self, area: Area, answer: Result<(), Failed>) -> Result<(), Failed>
         ensures same { result ≡ answer }
