@@ -32,9 +32,6 @@ pub sync_adds_none : (base : Image) (area : Area) (rest : List Event) → AddsNo
 unfolding may_leave
 sync_adds_none base area rest = record { each = λ c (left, same). left }
 
-pub adds_none : (base : Image) (events : List Event) → AddsNone (may_leave base events) (may_leave base events)
-adds_none base events = record { each = λ c left. left }
-
 -- time goes on by one event, or stands
 pub elapses : (base : Image) (event : Event) (rest : List Event) → Elapses (length rest) (length (event ∷ rest)) (left_since base rest) (left_since base (event ∷ rest)) (may_leave base (event ∷ rest))
 unfolding left_since

@@ -2,5 +2,5 @@ pub mod HistoryLaws
 pub mod CrashLaws
 pub mod NoteLemmas
 pub mod ReplayLemmas
-pub mod PlanLemmas
+pub mod CallLemmas
 pub mod StepLaws

@@ -3,7 +3,7 @@ use Rattle.std.specs.declared.alloc.Global.{Global}
 use Rattle.std.specs.Vec.{with_items}
 use Rattle.std.proofs.lemmas.List.{with_items_is, length-map}
 use Rattle.rm_memory.specs.Calls.{lists}
-use Rattle.rm_memory.proofs.PlanLemmas.{listed_later}
+use Rattle.rm_memory.proofs.CallLemmas.{listed_later}
 use Rattle.rm_memory.proofs.calls.count_call.Goals as goal
 
 nears : (fails : Vec ℕ Global) (before calls : List ℕ) → before ≡ fails.items → length before ≡ fails.len → calls ≡ map (λ k. k - 1) before

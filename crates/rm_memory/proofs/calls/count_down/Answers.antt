@@ -1,5 +1,5 @@
 use Rattle.std.proofs.Common.{arith}
-use Rattle.rm_memory.proofs.PlanLemmas.{fallen_more, rest_more}
+use Rattle.rm_memory.proofs.CallLemmas.{fallen_more, rest_more}
 use Rattle.rm_memory.proofs.calls.count_down.Goals as goal
 
 pub loop-call-preserved : goal.loop-call-preserved

@@ -1,5 +1,5 @@
 -- Which calls are listed.
-use Rattle.std.proofs.Common.{◌≡◌, ◌≤◌, ◌<◌, length, get_or, set, take, drop, add-zero, ℕ, ◌+◌, ◌-◌, ◌==◌, ◌||◌, Bool, true, false, List, [], ◌∷◌, ◌++◌, map, refl, sym, ◌∙◌, ap, arith}
+use Rattle.std.proofs.Common.{◌≡◌, ◌≤◌, ◌<◌, length, get_or, set, take, drop, add-zero, ℕ, ◌+◌, ◌-◌, ◌==◌, ◌||◌, Bool, List, [], ◌∷◌, ◌++◌, map, refl, sym, ◌∙◌, ap, arith}
 use Rattle.std.specs.List.{list_any}
 use Rattle.std.proofs.lemmas.List.{take_more_set, map_more, drop-set-lt, drop-drop, get_or-drop}
 use Rattle.std.proofs.lemmas.Bool.Decides.{nat_tests}
@@ -11,10 +11,6 @@ fallen_eq k n from = grind (arith, nat_tests)
 pub listed_later : (calls : List ℕ) (n : ℕ) → 1 ≤ n → list_any (λ k. k == n) (map (λ k. k - 1) calls) ≡ list_any (λ k. k == n + 1) calls
 listed_later [] n from = refl
 listed_later (k ∷ calls) n from = ap (λ (b : Bool). b || list_any (λ j. j == n) (map (λ j. j - 1) calls)) (fallen_eq k n from) ∙ ap (λ (b : Bool). (k == n + 1) || b) (listed_later calls n from)
-
-pub listed_pushed : (calls : List ℕ) (n k : ℕ) → list_any (λ j. j == k) (calls ++ n ∷ []) ≡ (list_any (λ j. j == k) calls || (n == k))
-listed_pushed [] n k = elim (n == k) as (λ v. (v || false) ≡ v) [ true ↦ refl | false ↦ refl ]
-listed_pushed (j ∷ calls) n k = elim (j == k) as (λ v. (v || list_any (λ i. i == k) (calls ++ n ∷ [])) ≡ ((v || list_any (λ i. i == k) calls) || (n == k))) [ true ↦ refl | false ↦ listed_pushed calls n k ]
 
 -- the next number has fallen
 pub fallen_more : (old now : List ℕ) (i y : ℕ) → i < length old → i < length now → y ≡ get_or now i 0 - 1 → take i now ≡ map (λ n. n - 1) (take i old) → drop i now ≡ drop i old
