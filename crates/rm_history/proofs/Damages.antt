@@ -46,6 +46,10 @@ next_of (first ∷ front) (other ∷ batch) behind are batch_are same shorter =
 spelled_around : (front batch : Batch) (found : Next front batch) → spelling_all batch ≡ spelling_all front ++ (spelling found.next ++ spelling_all found.rest)
 spelled_around front batch found = ap spelling_all found.split ∙ flat_map-append spelling front (found.next ∷ found.rest)
 
+found_within : (front batch : Batch) (found : Next front batch) → length (spelling_all front) + length (spelling found.next) ≤ length (spelling_all batch)
+found_within front batch found =
+    omega (arith, ap length (spelled_around front batch found), length-append (spelling_all front) (spelling found.next ++ spelling_all found.rest), length-append (spelling found.next) (spelling_all found.rest))
+
 module _ (area : Bytes) where
   -- as many bytes as some that stand there
   shows_take : (at : ℕ) (first whole : List ℕ) → Shows area at first → Shows area at whole → length first ≤ length whole → first ++ drop (length first) whole ≡ whole
@@ -78,14 +82,12 @@ module _ (area : Bytes) where
       let shorter : length (spelling_all front) < n = omega (arith, wrong.within, same) in
       let found = next_of front batch (drop (length (spelling_all front)) (spelling_all batch)) wrong.records is.records
       (shows_take (gate + 1 + 4) (spelling_all front) (spelling_all batch) begins whole (omega arith)) shorter in
-      let spelled : spelling_all batch ≡ spelling_all front ++ (spelling found.next ++ spelling_all found.rest) =
-      spelled_around front batch found in
       let there : Shows area (gate + 1 + 4 + length (spelling_all front)) (spelling found.next) =
       shows_front (spelling found.next) (spelling_all found.rest)
-      (shows_back (spelling_all front) (spelling found.next ++ spelling_all found.rest) (subst (λ (l : List ℕ). Shows area (gate + 1 + 4) l) spelled whole)) in
+      (shows_back (spelling_all front) (spelling found.next ++ spelling_all found.rest) (subst (λ (l : List ℕ). Shows area (gate + 1 + 4) l) (spelled_around front batch found) whole)) in
       let place : gate + 1 + 4 + length (spelling_all front) ≡ at = omega (arith, wrong.place) in
       let fits : length (spelling_all front) + length (spelling found.next) ≤ wrong.len =
-      omega (arith, same, ap length spelled, length-append (spelling_all front) (spelling found.next ++ spelling_all found.rest), length-append (spelling found.next) (spelling_all found.rest)) in
+      omega (arith, same, found_within front batch found) in
       wrong.none found.next found.is fits (subst (λ (m : ℕ). Shows area m (spelling found.next)) place there)
 
   -- a wrong place behind some batches, of which the log has more or fewer
