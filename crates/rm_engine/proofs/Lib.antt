@@ -5,3 +5,7 @@ pub mod Changed
 pub mod Leaves
 pub mod Kept
 pub mod Turned
+pub mod Runs
+pub mod Behind
+pub mod After
+pub mod RunImages
