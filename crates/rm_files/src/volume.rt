@@ -168,6 +168,7 @@ impl<R: Files<File = File> + Drop> Volume for FileVolume<R> {
         ensures lost { IsTrue (is_lost self.old.lost area) → IsErr result }
         // From a sync that fails on the area is lost.
         ensures loses { OnErr result (IsTrue (is_lost self.new.lost area)) }
+        ensures stays { OnOk result (is_lost self.new.lost area ≡ false) }
         ensures keeps { (other : Area) → (other ≡ area → ⊥) → is_lost self.new.lost other ≡ is_lost self.old.lost other }
         ensures reads { self.new.reads ≡ self.old.reads }
     {

@@ -5,7 +5,6 @@
 //! what is printed and why. `main` only hands it the real ones.
 #![tactic(auto)]
 
-mod adapters;
 mod command;
 mod plain;
 mod reading;
@@ -15,12 +14,15 @@ mod stops;
 mod tests;
 mod writing;
 
-pub use adapters::{Input, NoVolume, Output};
 pub use command::{run_command, tell};
+use rm_files::{FileVolume, Input, Output};
 pub use statuses::Status;
 use std::io::ErrorKind;
 use std::process::ExitCode;
 use std::{env, io};
+
+/// The folder that the volume's files lie in: the current one.
+const FOLDER: &str = ".";
 
 /// The words after the program's name.
 fn words(rt: &HostRuntime) -> io::Result<Vec<String>> {
@@ -41,7 +43,9 @@ fn main(rt: HostRuntime) -> ExitCode {
         // A word that is no text is in no command's form, and nor is no word.
         Err(_) => Vec::new(rt.alloc()),
     };
-    let mut volume = NoVolume::new();
+    let Ok(mut volume) = FileVolume::new(rt.alloc(), &rt, FOLDER) else {
+        return ExitCode::from(tell(Status::NoMemory, &mut out).number());
+    };
     let mut script = Input::new(rt.stdin());
     let status = run_command(
         rt.alloc(),

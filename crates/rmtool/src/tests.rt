@@ -3,8 +3,9 @@
 mod fakes;
 
 use crate::statuses::LINE_ROOM;
-use crate::{NoVolume, Status, run_command};
+use crate::{FOLDER, Status, run_command};
 use fakes::{FakeSink, FakeSource, Fault};
+use rm_files::FileVolume;
 use rm_types::{MAX_BYTES, MAX_LINES, MAX_ROW, Which};
 use std::alloc::{AllocError, Global};
 use std::test::Fail;
@@ -32,21 +33,21 @@ fn strings(alloc: Global, words: &[&str]) -> Result<Vec<String>, AllocError> {
 
 /// Does the command of these words.
 fn run(
-    alloc: Global,
+    rt: &HostRuntime,
     words: &[&str],
     source: &mut FakeSource,
     sink: &mut FakeSink,
 ) -> Result<Status, AllocError> {
-    let words = strings(alloc, words)?;
-    let mut volume = NoVolume::new();
-    Ok(run_command(alloc, words.as_slice(), &mut volume, source, sink))
+    let words = strings(rt.alloc(), words)?;
+    let mut volume = FileVolume::new(rt.alloc(), rt, FOLDER)?;
+    Ok(run_command(rt.alloc(), words.as_slice(), &mut volume, source, sink))
 }
 
 /// The status of the command `plain` for a script, and what it prints.
-fn run_plain(alloc: Global, script: Vec<u8>) -> Result<(Status, Vec<u8>), AllocError> {
+fn run_plain(rt: &HostRuntime, script: Vec<u8>) -> Result<(Status, Vec<u8>), AllocError> {
     let mut source = FakeSource::new(script);
-    let mut sink = FakeSink::new(Vec::new(alloc));
-    let status = run(alloc, PLAIN, &mut source, &mut sink)?;
+    let mut sink = FakeSink::new(Vec::new(rt.alloc()));
+    let status = run(rt, PLAIN, &mut source, &mut sink)?;
     Ok((status, sink.into_bytes()))
 }
 
@@ -62,7 +63,7 @@ fn runs_one_session(rt: HostRuntime) -> Result<(), Fail> {
     ];
     for (script, text) in sessions {
         let bytes = script.as_bytes().to_vec(rt.alloc())?;
-        let (status, printed) = run_plain(rt.alloc(), bytes)?;
+        let (status, printed) = run_plain(&rt, bytes)?;
         assert_eq!(rt; status, Status::Done, "{script:?}");
         assert_eq!(rt; printed.as_slice(), text.as_bytes(), "{script:?}");
     }
@@ -116,7 +117,7 @@ const REPLIES: [(&str, &str); 9] = [
 fn replies_come_in_their_order(rt: HostRuntime) -> Result<(), Fail> {
     for (script, text) in REPLIES {
         let bytes = script.as_bytes().to_vec(rt.alloc())?;
-        let (status, printed) = run_plain(rt.alloc(), bytes)?;
+        let (status, printed) = run_plain(&rt, bytes)?;
         assert_eq!(rt; status, Status::Done, "{script:?}");
         assert_eq!(rt; printed.as_slice(), text.as_bytes(), "{script:?}");
     }
@@ -144,7 +145,7 @@ fn an_insert_without_space_binds_nothing(rt: HostRuntime) -> Result<(), Fail> {
         "\nnospace\nunbound\n",
     ]
     .concat(alloc)?;
-    let (status, printed) = run_plain(alloc, script.into_bytes())?;
+    let (status, printed) = run_plain(&rt, script.into_bytes())?;
     assert_eq!(rt; status, Status::Done);
     assert!(rt; printed.as_slice() == text.as_bytes());
     Ok(())
@@ -182,7 +183,7 @@ const WRONG: [(&str, u64, &str); 20] = [
 fn wrong_lines_are_told_before_anything_is_printed(rt: HostRuntime) -> Result<(), Fail> {
     for (script, line, text) in WRONG {
         let bytes = script.as_bytes().to_vec(rt.alloc())?;
-        let (status, printed) = run_plain(rt.alloc(), bytes)?;
+        let (status, printed) = run_plain(&rt, bytes)?;
         assert_eq!(rt; status, Status::BadScript { line }, "{script:?}");
         assert_eq!(rt; printed.as_slice(), text.as_bytes(), "{script:?}");
     }
@@ -219,7 +220,7 @@ fn bytes_are_counted_before_lines_and_lines_before_they_are_read(
     ];
     for (byte, count, (due, text)) in rows {
         let script = vec![in rt.alloc(); byte; count]?;
-        let (status, printed) = run_plain(rt.alloc(), script)?;
+        let (status, printed) = run_plain(&rt, script)?;
         assert_eq!(rt; status, due, "{count} times {byte}");
         assert_eq!(rt; printed.as_slice(), text.as_bytes(), "{count} times {byte}");
     }
@@ -230,11 +231,11 @@ fn bytes_are_counted_before_lines_and_lines_before_they_are_read(
 fn as_many_lines_as_a_script_may_have_are_done(rt: HostRuntime) -> Result<(), Fail> {
     let script = "commit\n".repeat(rt.alloc(), MAX_LINES)?;
     let text = "skipped\n".repeat(rt.alloc(), MAX_LINES)?;
-    let (status, printed) = run_plain(rt.alloc(), script.into_bytes())?;
+    let (status, printed) = run_plain(&rt, script.into_bytes())?;
     assert_eq!(rt; status, Status::Done);
     assert!(rt; printed.as_slice() == text.as_bytes());
     let script = "commit\n".repeat(rt.alloc(), MAX_LINES + 1)?;
-    let (status, printed) = run_plain(rt.alloc(), script.into_bytes())?;
+    let (status, printed) = run_plain(&rt, script.into_bytes())?;
     let (due, text) = MANY_LINES;
     assert_eq!(rt; status, due);
     assert_eq!(rt; printed.as_slice(), text.as_bytes());
@@ -255,7 +256,7 @@ fn replies_longer_than_the_buffer_are_written_whole(rt: HostRuntime) -> Result<(
         let mut source = FakeSource::new(script.as_bytes().to_vec(alloc)?);
         let mut sink = FakeSink::new(Vec::new(alloc));
         sink.piece = piece;
-        let status = run(alloc, PLAIN, &mut source, &mut sink)?;
+        let status = run(&rt, PLAIN, &mut source, &mut sink)?;
         assert_eq!(rt; status, Status::Done, "{piece} at a time");
         assert!(rt;
             sink.into_bytes().as_slice() == text.as_bytes(),
@@ -281,7 +282,7 @@ fn other_words_read_nothing(rt: HostRuntime) -> Result<(), Fail> {
     for words in commands {
         let mut source = FakeSource::new("begin\n".as_bytes().to_vec(rt.alloc())?);
         let mut sink = FakeSink::new(Vec::new(rt.alloc()));
-        let status = run(rt.alloc(), words, &mut source, &mut sink)?;
+        let status = run(&rt, words, &mut source, &mut sink)?;
         assert_eq!(rt; status, Status::Usage, "{words:?}");
         assert_eq!(rt;
             sink.into_bytes().as_slice(),
@@ -302,7 +303,7 @@ fn a_source_that_fails_is_told_before_its_lines(rt: HostRuntime) -> Result<(), F
             source.piece = 7;
             source.fails_at = fails_at;
             let mut sink = FakeSink::new(Vec::new(rt.alloc()));
-            let status = run(rt.alloc(), PLAIN, &mut source, &mut sink)?;
+            let status = run(&rt, PLAIN, &mut source, &mut sink)?;
             assert_eq!(rt; status, Status::Source, "{script:?} at call {fails_at}");
             assert_eq!(rt; sink.into_bytes().as_slice(), "error 5 source\n".as_bytes());
             assert_eq!(rt; source.calls, fails_at, "{script:?}");
@@ -343,7 +344,7 @@ fn pieces_of_any_size_make_the_same_answer(rt: HostRuntime) -> Result<(), Fail> 
                 source.piece = given;
                 let mut sink = FakeSink::new(Vec::new(rt.alloc()));
                 sink.piece = taken;
-                let status = run(rt.alloc(), due.words, &mut source, &mut sink)?;
+                let status = run(&rt, due.words, &mut source, &mut sink)?;
                 assert_eq!(rt; status, due.status, "{given} in, {taken} out");
                 assert_eq!(rt; sink.into_bytes().as_slice(), due.text.as_bytes());
             }
@@ -354,18 +355,18 @@ fn pieces_of_any_size_make_the_same_answer(rt: HostRuntime) -> Result<(), Fail> 
 
 /// The status where a sink fails at the call after so many pieces, and what it took.
 fn run_cut_short(
-    alloc: Global,
+    rt: &HostRuntime,
     due: &Due,
     piece: usize,
     fault: Fault,
     pieces: usize,
 ) -> Result<(Status, Vec<u8>), AllocError> {
-    let mut source = FakeSource::new(due.script.as_bytes().to_vec(alloc)?);
-    let mut sink = FakeSink::new(Vec::new(alloc));
+    let mut source = FakeSource::new(due.script.as_bytes().to_vec(rt.alloc())?);
+    let mut sink = FakeSink::new(Vec::new(rt.alloc()));
     sink.piece = piece;
     sink.fault = fault;
     sink.fails_at = (pieces as u64).saturating_add(1);
-    let status = run(alloc, due.words, &mut source, &mut sink)?;
+    let status = run(rt, due.words, &mut source, &mut sink)?;
     Ok((status, sink.into_bytes()))
 }
 
@@ -380,7 +381,7 @@ fn a_sink_that_fails_has_a_front(rt: HostRuntime) -> Result<(), Fail> {
     for due in DUE {
         for (piece, fault) in ways {
             for pieces in 0..=due.text.len() {
-                let (status, taken) = run_cut_short(rt.alloc(), &due, piece, fault, pieces)?;
+                let (status, taken) = run_cut_short(&rt, &due, piece, fault, pieces)?;
                 let front = piece.saturating_mul(pieces).min(due.text.len());
                 let is_whole = front == due.text.len();
                 let status_due = if is_whole { due.status } else { Status::Sink };
@@ -422,7 +423,9 @@ fn memory_is_told_or_not_needed(rt: HostRuntime) {
     let Ok((words, mut source, mut sink)) = with_room(rt.alloc()) else {
         return;
     };
-    let mut volume = NoVolume::new();
+    let Ok(mut volume) = FileVolume::new(rt.alloc(), &rt, FOLDER) else {
+        return;
+    };
     let status = run_command(
         rt.alloc(),
         words.as_slice(),
