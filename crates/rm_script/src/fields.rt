@@ -9,7 +9,7 @@ use crate::cuts::cut;
 use rm_types::{MAX_ROW, Name, Rid, Target};
 
 /// The number that the text spells in decimal, without a leading zero.
-pub(crate) fn number(text: &[u8]) -> Option<u32>
+pub fn number(text: &[u8]) -> Option<u32>
     ensures some { IfSome result (λ n. text.now ≡ decimal n) }
     ensures none { IfNone result ((n : ℕ) → n < 2 ^ 32 → text.now ≡ decimal n → ⊥) }
 {

@@ -13,6 +13,7 @@ mod refused;
 mod rows;
 mod texts;
 
+pub use fields::number;
 pub use reading::{read_plain, read_turns};
 pub use refused::ScriptRefused;
 pub use texts::reply_text;
