@@ -9,7 +9,6 @@ use rm_outside::{Failed, Volume};
 use rm_types::Area;
 use std::alloc::{AllocError, Global};
 use std::fs::File;
-use std::io;
 use std::rt::Files;
 
 /// A volume over the files `master`, `log`, `data`, `space` and `copy` of one folder.
@@ -25,10 +24,8 @@ pub struct FileVolume<R: Drop> {
 }
 
 impl<R: Files<File = File> + Drop> FileVolume<R> {
-    ghost use Rattle.std.specs.Prelude.{false, true, IsTrue, IfOk, OnOk, OnErr, IsErr};
-    ghost use Rattle.rm_outside.specs.Areas.{CanReach};
+    ghost use Rattle.std.specs.Prelude.{false, IfOk};
     ghost use Rattle.rm_outside.specs.Faults.{HasCause};
-    ghost use Rattle.rm_outside.specs.Counts.{CountsBlock, CountsBytes, CountsAtMost};
     ghost use Rattle.rm_files.specs.Tallies.{faults_of, is_lost, Tallies};
 
     /// A volume over the folder at that path, `.` for the current one. Nothing has failed or was read
@@ -88,8 +85,7 @@ impl<R: Files<File = File> + Drop> FileVolume<R> {
 }
 
 impl<R: Files<File = File> + Drop> Volume for FileVolume<R> {
-    ghost use Rattle.std.specs.Prelude.{false, ◌≡◌, ◌≤◌, ◌<◌, ◌+◌, ◌^◌, ℕ, IsTrue, IsErr, OnOk, OnErr, true};
-    ghost use Rattle.std.proofs.Common.{rules};
+    ghost use Rattle.std.specs.Prelude.{false, ◌≡◌, ◌≤◌, ℕ, IsTrue, IsErr, OnOk, OnErr};
     ghost use Rattle.rm_outside.specs.Areas.{CanReach};
     ghost use Rattle.rm_outside.specs.Faults.{HasCause};
     ghost use Rattle.rm_outside.specs.Counts.{CountsBlock, CountsBytes, CountsAtMost};
