@@ -69,6 +69,7 @@ impl Engine {
         ensures inserts { self.new.inserts ≡ self.old.inserts }
         ensures log { OnOk result (self.new.log ≡ log_flushed self.old.log) }
         ensures durable { OnOk result (IsDurable Area.Log (V.content volume.new) (V.may_leave volume.new)) }
+        ensures limit { OnOk result (self.new.log.limit ≡ self.old.log.limit) }
 
         ensures at { OnOk result ((pages count : ℕ) (rows : Rows)
             → IsAt pages count rows self.old.session.core self.old.log self.old.under.0 self.old.inserts (V.may_leave volume.old)
@@ -108,6 +109,7 @@ impl Engine {
         ensures inserts { self.new.inserts ≡ self.old.inserts }
         ensures ready { OnOk result (IsReady self.old.session.core self.new.log self.old.inserts) }
         ensures durable { OnOk result (IsDurable Area.Log (V.content volume.new) (V.may_leave volume.new)) }
+        ensures limit { OnOk result (self.new.log.limit ≡ self.old.log.limit) }
         ensures at { OnOk result ((pages count : ℕ) (rows : Rows)
             → IsAt pages count rows self.old.session.core self.old.log self.old.under.0 self.old.inserts (V.may_leave volume.old)
             → IsAt pages count rows self.old.session.core self.new.log self.old.under.0 self.old.inserts (V.may_leave volume.new)) }
@@ -149,6 +151,7 @@ impl Engine {
         ensures inserts { self.new.inserts ≡ self.old.inserts }
         ensures ready { OnOk result (IsReady self.old.session.core self.new.log self.old.inserts) }
         ensures durable { OnOk result (IsDurable Area.Log (V.content volume.new) (V.may_leave volume.new)) }
+        ensures limit { OnOk result (self.new.log.limit ≡ self.old.log.limit) }
         ensures at { OnOk result ((pages count : ℕ) (rows : Rows)
             → IsAt pages count rows self.old.session.core self.old.log self.old.under.0 self.old.inserts (V.may_leave volume.old)
             → IsAt pages count rows self.old.session.core self.new.log self.old.under.0 self.old.inserts (V.may_leave volume.new)) }
@@ -184,6 +187,7 @@ impl Engine {
         ensures inserts { self.new.inserts ≡ self.old.inserts }
         ensures ready { OnOk result (IsReady self.old.session.core self.new.log self.old.inserts) }
         ensures durable { OnOk result (IsDurable Area.Log (V.content volume.new) (V.may_leave volume.new)) }
+        ensures limit { OnOk result (self.new.log.limit ≡ self.old.log.limit) }
         ensures at { OnOk result ((pages count : ℕ) (rows : Rows)
             → IsAt pages count rows self.old.session.core self.old.log self.old.under.0 self.old.inserts (V.may_leave volume.old)
             → IsAt pages count rows self.old.session.core self.new.log self.old.under.0 self.old.inserts (V.may_leave volume.new)) }
@@ -220,6 +224,7 @@ impl Engine {
         ensures session { self.new.session ≡ self.old.session }
         ensures ready { OnOk result (IsReady self.new.session.core self.new.log self.new.inserts) }
         ensures durable { OnOk result (IsDurable Area.Log (V.content volume.new) (V.may_leave volume.new)) }
+        ensures limit { OnOk result (self.new.log.limit ≡ self.old.log.limit) }
         ensures at { OnOk result ((pages count : ℕ) (rows : Rows)
             → IsAt pages count rows before.now.value.core self.old.log self.old.under.0 self.old.inserts (V.may_leave volume.old)
             → IsAt pages (count_after reply.now count) (committed_after reply.now (rows_of before.now.value.core.pages) rows) self.new.session.core self.new.log self.new.under.0 self.new.inserts (V.may_leave volume.new)) }
@@ -272,6 +277,7 @@ impl Engine {
         ensures step { IfOk result (λ reply. Step self.old.session line.now reply self.new.session) }
         ensures ready { OnOk result (IsReady self.new.session.core self.new.log self.new.inserts) }
         ensures durable { OnOk result (IsDurable Area.Log (V.content volume.new) (V.may_leave volume.new)) }
+        ensures limit { OnOk result (self.new.log.limit ≡ self.old.log.limit) }
 
         // After a commit each image that a crash may leave has the transaction; and after every other reply what it had.
         ensures at { IfOk result (λ reply. (pages count : ℕ) (rows : Rows)
