@@ -103,9 +103,9 @@ module _ (file_pages before : ℕ) (rows : Rows) (lines : List Line) (replies : 
       let count : (before + acknowledged replies) + 1 ≡ before + acknowledged (replies ++ reply.Committed ∷ []) = omega (arith, one) in
       let begun : begins replies ≡ acknowledged (replies ++ reply.Committed ∷ []) = omega (arith, one, begun_busy rows lines replies old after.behind changed.0) in
       let shown : rows_of old.pages ≡ rows_after (lines ++ line.Commit ∷ []) (replies ++ reply.Committed ∷ []) (acknowledged (replies ++ reply.Committed ∷ [])) rows =
-          after.behind.shown
-          ∙ sym (rows_after-stays lines replies line.Commit reply.Committed (begins replies) rows after.same (omega arith) (λ any. refl))
-          ∙ ap (λ (n : ℕ). rows_after (lines ++ line.Commit ∷ []) (replies ++ reply.Committed ∷ []) n rows) begun in
+      after.behind.shown
+      ∙ sym (rows_after-stays lines replies line.Commit reply.Committed (begins replies) rows after.same (omega arith) (λ any. refl))
+      ∙ ap (λ (n : ℕ). rows_after (lines ++ line.Commit ∷ []) (replies ++ reply.Committed ∷ []) n rows) begun in
       record {
         same = one_more line.Commit reply.Committed;
         behind = behind_commit rows lines replies old new after.same after.behind changed;

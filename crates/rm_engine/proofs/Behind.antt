@@ -49,9 +49,9 @@ module _ (rows : Rows) (lines : List Line) (replies : List Reply) (old new : Cor
   acknowledged_stay count few = elim (cases_lt count (begins replies)) [
     | inl less ↦ rows_after-stop lines replies asked told count rows same less
     | inr upto ↦ elim (cases_Bool old.active) [
-        | inl busy ↦ absurd (omega (arith, begun_busy rows lines replies old behind busy))
-        | inr idle ↦ rows_after-stays lines replies asked told count rows same upto (put_idle asked told old new changed idle)
-      ]
+      | inl busy ↦ absurd (omega (arith, begun_busy rows lines replies old behind busy))
+      | inr idle ↦ rows_after-stays lines replies asked told count rows same upto (put_idle asked told old new changed idle)
+    ]
   ]
 
   pub more_acknowledged : acknowledged replies ≤ acknowledged (replies ++ told ∷ [])

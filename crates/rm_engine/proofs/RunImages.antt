@@ -78,7 +78,7 @@ module _ (file_pages before : ℕ) (rows : Rows) (lines : List Line) (replies : 
         let one : acknowledged (told ∷ []) ≡ 1 = ap (λ (r : Reply). acknowledged (r ∷ [])) said in
         let shown : rows_of old.core.pages ≡ rows_after lines replies (acknowledged replies + 1) rows = after.behind.shown ∙ ap (λ (n : ℕ). rows_after lines replies n rows) begun in
         let kept : rows_after (lines ++ line.Commit ∷ []) (replies ++ told ∷ []) (acknowledged replies + 1) rows ≡ rows_after lines replies (acknowledged replies + 1) rows =
-            rows_after-stays lines replies line.Commit told (acknowledged replies + 1) rows after.same (omega (arith, begun)) (λ any. refl) in
+        rows_after-stays lines replies line.Commit told (acknowledged replies + 1) rows after.same (omega (arith, begun)) (λ any. refl) in
         let count : (before + acknowledged replies) + 1 ≡ before + (acknowledged replies + 1) = omega arith in
         record {
           first = record {

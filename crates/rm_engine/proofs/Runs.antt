@@ -112,7 +112,7 @@ rows_after-next (line ∷ lines) (first ∷ replies) asked told count rows same 
   where
     next_begin : (lines : List Line) (replies : List Reply) (line : Line) (first : Reply) (asked : Line) (told : Reply) (count : ℕ) (rows : Rows) → Begins first → begins (first ∷ replies) ≤ count
         → ((left : ℕ) (rest : Rows) → begins replies ≤ left → rows_after (lines ++ asked ∷ []) (replies ++ told ∷ []) left rest
-            ≡ option_map_or (λ after. put (rows_after lines replies left rest) asked told) (left_to_begin told (left - begins replies)) (rows_after lines replies left rest))
+        ≡ option_map_or (λ after. put (rows_after lines replies left rest) asked told) (left_to_begin told (left - begins replies)) (rows_after lines replies left rest))
         → rows_after (line ∷ (lines ++ asked ∷ [])) (first ∷ (replies ++ told ∷ [])) count rows
         ≡ option_map_or (λ after. put (rows_after (line ∷ lines) (first ∷ replies) count rows) asked told) (left_to_begin told (count - begins (first ∷ replies))) (rows_after (line ∷ lines) (first ∷ replies) count rows)
     next_begin lines replies line first asked told zero rows starts upto on =
