@@ -1,6 +1,6 @@
 //! Sessions over a volume in memory.
 
-ghost use Rattle.std.specs.Prelude.{ℕ, ◌^◌, ◌≤◌};
+ghost use Rattle.std.specs.Prelude.{◌^◌, ◌≤◌};
 ghost use Rattle.rm_types.specs.declared.areas.Area.{Area as Areas};
 ghost use Rattle.rm_types.specs.declared.numbers.TheConstants.{MAX_PAGES, MAX_LOG};
 ghost use Rattle.rm_types.specs.declared.rows.TheConstants.{MAX_ROW};
@@ -103,11 +103,11 @@ fn a_transaction_fits_exactly(rt: HostRuntime) -> Result<(), Fail> {
     let inserts = BATCH_HEADER + INSERT_SIZE + SHORT as u64 + CHANGE_COST + 2 * OWED;
     assert_eq!(rt; (begins, inserts), (69, 190));
     for (limit, replies) in [
-        (68, "LogFull { end: 5 }"),
-        (69, "Began(TxnId(1)) LogFull { end: 5 }"),
-        (189, "Began(TxnId(1)) LogFull { end: 5 }"),
+        (begins - 1, "LogFull { end: 5 }"),
+        (begins, "Began(TxnId(1)) LogFull { end: 5 }"),
+        (inserts - 1, "Began(TxnId(1)) LogFull { end: 5 }"),
         (
-            190,
+            inserts,
             "Began(TxnId(1)) Inserted(Rid { page: 0, slot: 0 }) Committed ",
         ),
     ] {
