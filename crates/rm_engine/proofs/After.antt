@@ -1,6 +1,5 @@
 -- One step of the run, and what its images have.
-use Rattle.std.proofs.Common.{◌≡◌, ◌⊎◌, inl, inr, ℕ, ◌+◌, ◌-◌, ◌<◌, ◌≤◌, Bool, true, false, List, [], ◌∷◌, ◌++◌, length, refl, sym, ap, subst, ◌∙◌, arith, length-append}
-use Rattle.std.proofs.lemmas.Bool.{cases_Bool, true≢false}
+use Rattle.std.proofs.Common.{◌≡◌, ℕ, ◌+◌, List, [], ◌∷◌, ◌++◌, length, refl, sym, ap, subst, ◌∙◌, arith, length-append}
 use Rattle.rm_types.specs.declared.lines.Line.{Line}
 use Rattle.rm_types.specs.declared.lines.Line.TheVariants as line
 use Rattle.rm_types.specs.declared.lines.Target.{Target}
@@ -8,15 +7,12 @@ use Rattle.rm_types.specs.declared.operations.Reply.{Reply}
 use Rattle.rm_types.specs.declared.operations.Reply.TheVariants as reply
 use Rattle.rm_outside.specs.Images.{Image}
 use Rattle.rm_model.specs.Object.{Rows}
-use Rattle.rm_model.specs.Session.{rows_of, Core, State, Step, Comes}
+use Rattle.rm_model.specs.Session.{rows_of, Core}
 use Rattle.rm_wal.specs.Tails.{LogValue}
-use Rattle.rm_restart.specs.Sound.{Holds}
-use Rattle.rm_engine.specs.At.{IsAt, Changes, NotChanged, IsCommitOf, LeftByTurn, count_after, committed_after}
-use Rattle.rm_engine.specs.Runs.{begins, acknowledged, put, rows_after, HasFirst, HasAcknowledged, open_of, IsBehind, IsWithin, IsAfter}
-use Rattle.rm_engine.proofs.Changed.{changes}
-use Rattle.rm_engine.proofs.Flushes.{holds_now}
+use Rattle.rm_engine.specs.At.{IsAt, Changes, NotChanged, count_after, committed_after}
+use Rattle.rm_engine.specs.Runs.{begins, acknowledged, put, rows_after, IsAfter}
 use Rattle.rm_engine.proofs.Runs.{acknowledged-snoc, rows_after-stays}
-use Rattle.rm_engine.proofs.Behind.{begun_idle, begun_busy, acknowledged_stay, within_stays, quiet, behind_begin, behind_insert, behind_commit}
+use Rattle.rm_engine.proofs.Behind.{begun_busy, acknowledged_stay, quiet, behind_begin, behind_insert, behind_commit}
 
 -- a reply that is quiet, in any line
 record IsQuiet (asked : Line) (told : Reply) (old new : Core) : Type 0 where

@@ -1,5 +1,5 @@
 -- How a session and its images go on behind a run.
-use Rattle.std.proofs.Common.{◌≡◌, ◌⊎◌, inl, inr, ℕ, zero, suc, ◌+◌, ◌-◌, ◌<◌, ◌≤◌, Bool, true, false, List, [], ◌∷◌, ◌++◌, length, refl, sym, ap, subst, ◌∙◌, arith, length-append}
+use Rattle.std.proofs.Common.{◌≡◌, inl, inr, ℕ, ◌+◌, ◌≤◌, true, false, List, [], ◌∷◌, ◌++◌, length, refl, sym, ap, subst, ◌∙◌, arith}
 use Rattle.std.proofs.lemmas.Bool.{cases_Bool, cases_lt, true≢false}
 use Rattle.rm_types.specs.declared.numbers.Rid.{Rid}
 use Rattle.rm_types.specs.declared.numbers.TxnId.{TxnId}
@@ -9,15 +9,12 @@ use Rattle.rm_types.specs.declared.operations.Reply.{Reply}
 use Rattle.rm_types.specs.declared.operations.Reply.TheVariants as reply
 use Rattle.rm_outside.specs.Images.{Image}
 use Rattle.rm_model.specs.Object.{Rows, with_row}
-use Rattle.rm_model.specs.Session.{rows_of, set_row, IsPlaceFor, Core, State, Step}
+use Rattle.rm_model.specs.Session.{rows_of, Core}
 use Rattle.rm_model.proofs.Runs.{rows_of-set_row}
-use Rattle.rm_wal.specs.Tails.{LogValue}
 use Rattle.rm_restart.specs.Sound.{Holds}
-use Rattle.rm_engine.specs.At.{IsAt, Changes, NotChanged, IsCommitOf, LeftByTurn, count_after, committed_after}
-use Rattle.rm_engine.specs.Runs.{begins, acknowledged, put, rows_after, HasFirst, HasAcknowledged, open_of, IsBehind, IsWithin, IsAfter}
-use Rattle.rm_engine.proofs.Changed.{changes}
-use Rattle.rm_engine.proofs.Flushes.{holds_now}
-use Rattle.rm_engine.proofs.Runs.{BeginsNone, begins-snoc, acknowledged-snoc, rows_after-stop, rows_after-stays, rows_after-goes, rows_after-enough}
+use Rattle.rm_engine.specs.At.{Changes}
+use Rattle.rm_engine.specs.Runs.{begins, acknowledged, put, rows_after, open_of, IsBehind, IsWithin}
+use Rattle.rm_engine.proofs.Runs.{begins-snoc, acknowledged-snoc, rows_after-stop, rows_after-stays, rows_after-goes, rows_after-enough}
 
 -- a line that inserts nothing puts nothing
 put_of_insert : (name : ℕ) (row : List ℕ) (told : Reply) (old new : Core) → Changes old (line.Insert name row) told new → old.active ≡ false → (any : Rows) → put any (line.Insert name row) told ≡ any

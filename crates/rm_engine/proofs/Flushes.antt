@@ -1,14 +1,13 @@
 -- What a flush and an append make of where a session stands.
-use Rattle.std.proofs.Common.{◌≡◌, ◌⊎◌, inl, inr, ℕ, ◌+◌, ◌-◌, ◌*◌, ◌<◌, ◌≤◌, Bool, true, false, List, [], ◌∷◌, ◌++◌, length, refl, sym, ap, subst, ◌∙◌, arith, length-append}
+use Rattle.std.proofs.Common.{◌≡◌, ◌⊎◌, inl, inr, ℕ, ◌+◌, ◌-◌, ◌*◌, ◌<◌, ◌≤◌, true, false, List, [], ◌∷◌, ◌++◌, length, refl, sym, ap, subst, ◌∙◌, arith, length-append}
 use Rattle.std.specs.List.{AllByRecursion}
 use Rattle.std.proofs.lemmas.Grind.{flat_map-append}
-use Rattle.std.proofs.lemmas.Bool.{cases_Bool, true≢false}
+use Rattle.std.proofs.lemmas.Bool.{true≢false}
 use Rattle.std.proofs.lemmas.List.{append-nil}
 use Rattle.rm_types.specs.declared.areas.Area.TheVariants.{Master, Log}
 use Rattle.rm_types.specs.declared.numbers.Lsn.{Lsn}
 use Rattle.rm_types.specs.declared.numbers.Rid.{Rid}
 use Rattle.rm_types.specs.declared.numbers.TxnId.{TxnId}
-use Rattle.rm_types.specs.declared.numbers.TheConstants.{MAX_LOG}
 use Rattle.rm_outside.specs.Images.{Bytes, Image}
 use Rattle.rm_model.specs.Object.{Rows}
 use Rattle.rm_model.specs.Session.{rows_of, set_row, IsPlaceFor, Core}
@@ -17,18 +16,17 @@ use Rattle.rm_record.specs.declared.records.LogRecord.TheVariants.{Insert, Commi
 use Rattle.rm_record.specs.Records.{spelling, spelling_all, IsRecord}
 use Rattle.rm_history.specs.declared.TheConstants.{BATCH_HEADER, UNDO_BYTES, END_BYTES}
 use Rattle.rm_history.specs.Logs.{Batch, gate_of, HasLog}
-use Rattle.rm_history.specs.Histories.{History, Change, history_of, pending, rows_of_log, commits}
-use Rattle.rm_history.specs.Legal.{undo_bytes, undo_bytes_of}
+use Rattle.rm_history.specs.Histories.{Change, history_of, pending, rows_of_log, commits}
+use Rattle.rm_history.specs.Legal.{undo_bytes_of}
 use Rattle.rm_history.proofs.Onto.{onto-snoc}
 use Rattle.rm_history.proofs.Undo.{undo_bytes-one, undo_bytes-none}
 use Rattle.rm_wal.specs.Tails.{LogValue, end_of}
-use Rattle.rm_wal.specs.Flushing.{ComesByFlush, IsFlushed, Tails, HasEither, written_tail}
+use Rattle.rm_wal.specs.Flushing.{ComesByFlush, Tails, HasEither, written_tail}
 use Rattle.rm_master.specs.Slots.{HasFields}
-use Rattle.rm_restart.specs.Sound.{IsImageOf, IsSoundLog, IsSound, Holds}
+use Rattle.rm_restart.specs.Sound.{IsImageOf, IsSoundLog, Holds}
 use Rattle.rm_engine.specs.Numbers.{IsReady}
-use Rattle.rm_engine.specs.At.{IsOpen, IsIdle, IsAtHistory, IsAt, whole_history}
+use Rattle.rm_engine.specs.At.{IsAtHistory, IsAt, whole_history}
 use Rattle.rm_engine.proofs.Steps.{begun, inserted, committed}
-use Rattle.rm_engine.specs.declared.room.TheConstants.{OWED}
 
 -- an image whose log alone is another
 pub image_with_log : (pages : ℕ) (batches others : List Batch) (d c : Image) → IsImageOf pages batches d → c Master ≡ d Master → HasLog (c Log) others → IsImageOf pages others c

@@ -1,7 +1,5 @@
 -- What the replies of a session keep of where it stands.
-use Rattle.std.proofs.Common.{◌≡◌, ◌⊎◌, inl, inr, ℕ, ◌+◌, ◌-◌, ◌*◌, ◌<◌, ◌≤◌, Bool, true, false, List, [], ◌∷◌, ◌++◌, length, refl, sym, ap, subst, ◌∙◌, arith}
-use Rattle.std.proofs.lemmas.Bool.{true≢false}
-use Rattle.rm_types.specs.declared.numbers.Lsn.{Lsn}
+use Rattle.std.proofs.Common.{◌≡◌, ◌⊎◌, inl, inr, ℕ, ◌+◌, true, List, refl, sym, subst}
 use Rattle.rm_types.specs.declared.numbers.Rid.{Rid}
 use Rattle.rm_types.specs.declared.numbers.TxnId.{TxnId}
 use Rattle.rm_types.specs.declared.lines.Line.{Line}
@@ -11,9 +9,8 @@ use Rattle.rm_types.specs.declared.operations.Reply.{Reply}
 use Rattle.rm_types.specs.declared.operations.Reply.TheVariants as reply
 use Rattle.rm_outside.specs.Images.{Image}
 use Rattle.rm_model.specs.Object.{Rows}
-use Rattle.rm_model.specs.Session.{rows_of, set_row, IsPlaceFor, Core}
+use Rattle.rm_model.specs.Session.{rows_of, Core}
 use Rattle.rm_wal.specs.Tails.{LogValue}
-use Rattle.rm_engine.specs.Numbers.{IsReady}
 use Rattle.rm_restart.specs.Sound.{Holds}
 use Rattle.rm_engine.specs.At.{IsAt, Changes, IsCommitOf, LeftByTurn, count_after, committed_after}
 

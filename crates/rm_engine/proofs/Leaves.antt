@@ -1,12 +1,11 @@
 -- Two facts of each image that calls may leave; and what a long tail says of a session.
-use Rattle.std.proofs.Common.{◌≡◌, ◌⊎◌, inl, inr, ℕ, ◌<◌, Bool, true, false, List, [], length, Result, Ok, Err, OnOk, refl, sym, ap, ◌∙◌, arith}
+use Rattle.std.proofs.Common.{◌≡◌, ◌⊎◌, inl, inr, ℕ, ◌<◌, true, List, length, ap, ◌∙◌, arith}
 use Rattle.std.proofs.lemmas.Bool.{cases_Bool}
 use Rattle.rm_outside.specs.Images.{Image}
 use Rattle.rm_outside.specs.Moments.{LeavesOnly}
 use Rattle.rm_model.specs.Object.{Rows}
 use Rattle.rm_model.specs.Session.{Core}
 use Rattle.rm_record.specs.Records.{spelling_all}
-use Rattle.rm_history.specs.Logs.{Batch}
 use Rattle.rm_wal.specs.Tails.{LogValue}
 use Rattle.rm_engine.specs.At.{IsAt}
 

@@ -1,15 +1,13 @@
 -- Where a session stands over a volume that was just opened.
-use Rattle.std.proofs.Common.{◌≡◌, inl, inr, ℕ, ◌+◌, ◌-◌, ◌<◌, ◌≤◌, Bool, true, false, cond, eqb, List, [], ◌∷◌, length, get_or, refl, sym, ap, subst, ◌∙◌, arith}
+use Rattle.std.proofs.Common.{◌≡◌, inl, inr, ℕ, ◌≤◌, Bool, false, cond, List, [], ◌∷◌, refl, sym, ap, ◌∙◌, arith}
 use Rattle.std.proofs.lemmas.Bool.{cases_lt, ne_eqb, true≢false}
 use Rattle.std.proofs.lemmas.List.{get_or_past}
 use Rattle.rm_types.specs.declared.numbers.Lsn.{Lsn}
-use Rattle.rm_types.specs.declared.numbers.Rid.{Rid}
 use Rattle.rm_types.specs.declared.slots.Slot.{Slot}
 use Rattle.rm_types.specs.declared.slots.Slot.TheVariants.{Row}
 use Rattle.rm_outside.specs.Images.{Image}
 use Rattle.rm_model.specs.Pages.{row_at, set_slot}
-use Rattle.rm_model.specs.Object.{Rows}
-use Rattle.rm_model.specs.Session.{page_at, rows_of, Core, opened}
+use Rattle.rm_model.specs.Session.{page_at, rows_of}
 use Rattle.rm_record.specs.declared.records.LogRecord.{LogRecord}
 use Rattle.rm_record.specs.declared.records.LogRecord.TheVariants.{Insert, Commit}
 use Rattle.rm_history.specs.Histories.{History, history_of, page_of, rows_of_log, commits}

@@ -1,5 +1,5 @@
 -- What the images of a run have.
-use Rattle.std.proofs.Common.{◌≡◌, ◌⊎◌, inl, inr, ℕ, ◌+◌, ◌<◌, ◌≤◌, Bool, true, false, List, [], ◌∷◌, ◌++◌, length, refl, sym, ap, subst, ◌∙◌, arith}
+use Rattle.std.proofs.Common.{◌≡◌, inl, inr, ℕ, ◌+◌, true, false, List, [], ◌∷◌, ◌++◌, refl, sym, ap, subst, ◌∙◌, arith}
 use Rattle.std.proofs.lemmas.Bool.{true≢false}
 use Rattle.rm_types.specs.declared.lines.Line.{Line}
 use Rattle.rm_types.specs.declared.lines.Line.TheVariants as line
@@ -12,7 +12,7 @@ use Rattle.rm_model.specs.Session.{rows_of, Core, State, Step, Comes}
 use Rattle.rm_wal.specs.Tails.{LogValue}
 use Rattle.rm_restart.specs.Sound.{Holds}
 use Rattle.rm_engine.specs.At.{IsAt, IsCommitOf, LeftByTurn}
-use Rattle.rm_engine.specs.Runs.{begins, acknowledged, rows_after, HasFirst, HasAcknowledged, open_of, IsBehind, IsWithin, IsAfter}
+use Rattle.rm_engine.specs.Runs.{acknowledged, rows_after, HasAcknowledged, open_of, IsWithin, IsAfter}
 use Rattle.rm_engine.proofs.Changed.{changes}
 use Rattle.rm_engine.proofs.Flushes.{holds_now}
 use Rattle.rm_engine.proofs.Runs.{acknowledged-snoc, rows_after-stays}

@@ -1,19 +1,12 @@
 -- How the rows of a run go on, line by line.
-use Rattle.std.proofs.Common.{◌≡◌, ◌⊎◌, inl, inr, ℕ, zero, suc, ◌+◌, ◌-◌, ◌<◌, ◌≤◌, Bool, true, false, List, [], ◌∷◌, ◌++◌, length, Option, Some, None, refl, sym, ap, subst, ◌∙◌, arith}
+use Rattle.std.proofs.Common.{◌≡◌, ◌⊎◌, inl, inr, ℕ, zero, suc, ◌+◌, ◌-◌, ◌<◌, ◌≤◌, List, [], ◌∷◌, ◌++◌, length, Option, Some, None, refl, sym, ap, subst, ◌∙◌, arith}
 use Rattle.std.specs.Option.{option_map_or}
-use Rattle.std.proofs.lemmas.Bool.{cases_Bool, true≢false}
 use Rattle.rm_types.specs.declared.numbers.TxnId.{TxnId}
 use Rattle.rm_types.specs.declared.lines.Line.{Line}
-use Rattle.rm_types.specs.declared.lines.Line.TheVariants as line
 use Rattle.rm_types.specs.declared.operations.Reply.{Reply}
 use Rattle.rm_types.specs.declared.operations.Reply.TheVariants as reply
-use Rattle.rm_outside.specs.Images.{Image}
-use Rattle.rm_model.specs.Object.{Rows, with_row}
-use Rattle.rm_model.specs.Session.{rows_of, set_row, IsPlaceFor, Core}
-use Rattle.rm_model.proofs.Runs.{rows_of-set_row}
-use Rattle.rm_restart.specs.Sound.{Holds}
-use Rattle.rm_engine.specs.At.{Changes, NotChanged, IsCommitOf, LeftByTurn, count_after, committed_after}
-use Rattle.rm_engine.specs.Runs.{begins, acknowledged, put, left_to_begin, rows_after, HasFirst, HasAcknowledged, open_of, IsBehind}
+use Rattle.rm_model.specs.Object.{Rows}
+use Rattle.rm_engine.specs.Runs.{begins, acknowledged, put, left_to_begin, rows_after}
 
 -- a reply begins a transaction, or leaves how many may begin
 pub record Begins (told : Reply) : Type 0 where

@@ -1,5 +1,5 @@
 -- How the history of a session goes on: a begin, an insert, a commit.
-use Rattle.std.proofs.Common.{◌≡◌, ◌⊎◌, inl, inr, ℕ, ◌+◌, ◌-◌, ◌*◌, ◌<◌, ◌≤◌, max, Bool, true, false, cond, eqb, List, [], ◌∷◌, ◌++◌, length, get_or, Some, None, refl, sym, ap, subst, ◌∙◌, arith}
+use Rattle.std.proofs.Common.{◌≡◌, inl, inr, ℕ, ◌+◌, ◌-◌, ◌<◌, ◌≤◌, Bool, true, false, cond, eqb, List, [], ◌∷◌, length, refl, sym, ap, subst, ◌∙◌, arith}
 use Rattle.std.proofs.lemmas.Bool.{cases_eq, eqb-true, eqb-false, eq-eqb, ne_eqb, true≢false}
 use Rattle.std.proofs.Common.{get_or-set_same, get_or-set_other, length-set}
 use Rattle.rm_types.specs.declared.numbers.Lsn.{Lsn}
@@ -8,7 +8,7 @@ use Rattle.rm_types.specs.declared.numbers.TxnId.{TxnId}
 use Rattle.rm_types.specs.declared.slots.Slot.{Slot}
 use Rattle.rm_types.specs.declared.slots.Slot.TheVariants.{Row}
 use Rattle.rm_types.specs.declared.slots.TheConstants.{CAPACITY, SLOT_ENTRY}
-use Rattle.rm_model.specs.Pages.{used, row_at, set_slot}
+use Rattle.rm_model.specs.Pages.{used, set_slot}
 use Rattle.rm_model.specs.Object.{Rows, with_row}
 use Rattle.rm_model.specs.Session.{page_at, rows_of, set_row, IsPlaceFor, Core}
 use Rattle.rm_model.proofs.Slots.{used-set_slot_end, row_at_past}
@@ -16,10 +16,10 @@ use Rattle.rm_model.proofs.Runs.{rows_of-set_row}
 use Rattle.rm_record.specs.declared.records.LogRecord.{LogRecord}
 use Rattle.rm_record.specs.declared.records.LogRecord.TheVariants.{Insert, Commit}
 use Rattle.rm_record.specs.declared.records.Logged.{Logged}
-use Rattle.rm_history.specs.Histories.{History, Change, page_of, pending, last_of, applied, rows_of_log, commits, greatest_id, IsFinished, HasChange}
-use Rattle.rm_history.specs.Legal.{IsLegal, MayInsert, MayCome, Fits, AreBelow}
+use Rattle.rm_history.specs.Histories.{History, Change, page_of, pending, last_of, applied, rows_of_log, greatest_id, IsFinished}
+use Rattle.rm_history.specs.Legal.{IsLegal, MayInsert, Fits}
 use Rattle.rm_history.proofs.Settled.{changed_slot}
-use Rattle.rm_engine.specs.At.{IsOpen, IsIdle, IsAtHistory}
+use Rattle.rm_engine.specs.At.{IsOpen, IsAtHistory}
 
 -- a finished transaction's id is at most the greatest
 finished_after : (before : History) (lsn : Lsn) (what : LogRecord) (id : ℕ) → (IsFinished before id → id ≤ greatest_id before)

@@ -1,5 +1,5 @@
 -- The numbers of log room: what a transaction owes, and what a turn costs.
-use Rattle.std.specs.Prelude.{◌≡◌, ℕ, ◌++◌, ◌+◌, ◌-◌, ◌*◌, ◌^◌, ◌≤◌, ◌<◌, nat_lt, if◌then◌else◌, Bool, true, false, List, [], length}
+use Rattle.std.specs.Prelude.{◌≡◌, ℕ, ◌++◌, ◌+◌, ◌-◌, ◌*◌, ◌^◌, ◌≤◌, ◌<◌, nat_lt, if◌then◌else◌, true, false, [], length}
 use Rattle.rm_types.specs.declared.numbers.TxnId.{TxnId}
 use Rattle.rm_types.specs.declared.numbers.TheConstants.{MAX_PAGES, MAX_LOG, MAX_SLOT}
 use Rattle.rm_types.specs.declared.numbers.Rid.{Rid}

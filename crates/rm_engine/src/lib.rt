@@ -10,3 +10,6 @@ mod room;
 pub use engine::Engine;
 pub use faults::TurnFault;
 pub use room::{CHANGE_COST, INSERT_SIZE, OWED};
+
+#[cfg(test)]
+mod tests;

@@ -1,6 +1,5 @@
-use Rattle.std.proofs.Common.{◌≡◌, ℕ, ◌<◌, length, true, sym, ap, subst, ◌∙◌, arith, cond, ltb, List, []}
+use Rattle.std.proofs.Common.{◌≡◌, ◌<◌, length, sym, ap, subst, arith, cond, ltb, []}
 use Rattle.std.proofs.lemmas.Bool.{lt-ltb}
-use Rattle.rm_outside.specs.Images.{Image}
 use Rattle.rm_outside.specs.Moments.{started, weaker}
 use Rattle.rm_wal.specs.Tails.{LogValue, end_of}
 use Rattle.rm_wal.specs.declared.log.TheConstants.{LONG_TAIL}
