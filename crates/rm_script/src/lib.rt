@@ -16,7 +16,7 @@ mod texts;
 pub use fields::number;
 pub use reading::{read_plain, read_turns};
 pub use refused::ScriptRefused;
-pub use texts::reply_text;
+pub use texts::{created_text, reply_text, restart_text, turn_text, unfinished_text};
 
 #[cfg(test)]
 mod tests;

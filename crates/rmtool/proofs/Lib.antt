@@ -1,3 +1,10 @@
 mod ReadingLemmas
 mod RunningLemmas
-mod AnswerLemmas
+mod PlainLemmas
+mod ToldLemmas
+mod VolumeLemmas
+mod CommandLemmas
+mod TurnLemmas
+mod StandLemmas
+mod OpenedLemmas
+mod ScriptLemmas

@@ -1,4 +1,10 @@
 pub mod Status
+pub mod Told
+pub mod Commands
 pub mod Reading
 pub mod Running
-pub mod Answer
+pub mod Plain
+pub mod Volumes
+pub mod Turns
+pub mod Turning
+pub mod Due

@@ -1,33 +1,31 @@
-//! The top call: the words of a command, its script and what it prints.
+//! The top call: the words of a command, its script, its volume and what it prints.
 
-ghost use Rattle.std.specs.Prelude.{◌≡◌, ◌≤◌, ◌⊎◌, ◌↔◌, [], ◌∷◌, codes, IsTrue, map, string_bytes};
+ghost use Rattle.std.specs.Prelude.{◌≡◌, ◌≤◌, ◌⊎◌, ℕ, IsTrue, IfSome, Option, Some, None, map, string_bytes};
+ghost use Rattle.rm_types.specs.declared.numbers.TheConstants.{MAX_PAGES};
 ghost use Rattle.rm_outside.specs.Faults.{Rises};
+ghost use Rattle.rmtool.specs.declared.commands.Command.{Command as Commands};
+ghost use Rattle.rmtool.specs.Commands.{IsCommand, Names, TakesScript, HasScript};
 ghost use Rattle.rmtool.specs.Reading.{IsReadToEnd};
-ghost use Rattle.rmtool.specs.Answer.{IsPlainCommand, Owes, Answers, Tells, IsComplete};
+ghost use Rattle.rmtool.specs.Told.{Owes, Answers, Tells};
+ghost use Rattle.rmtool.specs.Plain.{PlainDue, IsComplete};
+ghost use Rattle.rmtool.specs.Due.{DueFor, AsksRight};
 
+use crate::commands::{Command, command_of};
 use crate::plain::run_lines;
 use crate::reading::read_script;
 use crate::statuses::Status;
 use crate::stops::Stop;
+use crate::turns::turns;
+use crate::volumes::{create, open};
 use crate::writing::write_all;
 use rm_outside::{Failed, Sink, Source, Volume};
 use rm_script::read_plain;
 use std::alloc::Global;
 
-/// The words are the command `plain`, which is one word.
-fn is_plain(words: &[String]) -> bool
-    ensures { IsTrue result ↔ IsPlainCommand (map string_bytes words.now) }
-{
-    match words {
-        [word] => word.as_str() == "plain",
-        _ => false,
-    }
-}
-
 /// Does the command `plain`, all but the line that tells of a status.
 fn plain<S: Source, K: Sink>(alloc: Global, script: &mut S, out: &mut K) -> Status
-    ensures owes { Owes (codes "plain" ∷ []) (S.left script.old) (K.taken out.old) (K.taken out.new)
-        (Rises (S.faults script.old) (S.faults script.new)) (Rises (K.faults out.old) (K.faults out.new)) result }
+    ensures owes { Owes (PlainDue (S.left script.old) (Rises (S.faults script.old) (S.faults script.new))) (K.taken out.old) (K.taken out.new)
+        (Rises (K.faults out.old) (K.faults out.new)) result }
     ensures to_end { result ≡ Status.Done → IsReadToEnd (S.left script.old) (S.left script.new) }
     ensures kept { K.faults out.old ≤ K.faults out.new }
 {
@@ -48,23 +46,34 @@ fn plain<S: Source, K: Sink>(alloc: Global, script: &mut S, out: &mut K) -> Stat
     }
 }
 
-/// Does a command, all but the line that tells of a status.
-fn do_command<S: Source, K: Sink>(
+/// Does a command, or none, all but the line that tells of a status.
+fn do_command<V: Volume, S: Source, K: Sink>(
     alloc: Global,
-    words: &[String],
+    command: Option<Command>,
+    volume: &mut V,
     script: &mut S,
     out: &mut K,
 ) -> Status
-    ensures owes { Owes (map string_bytes words.now) (S.left script.old) (K.taken out.old) (K.taken out.new)
-        (Rises (S.faults script.old) (S.faults script.new)) (Rises (K.faults out.old) (K.faults out.new)) result }
-    ensures to_end { result ≡ Status.Done → IsReadToEnd (S.left script.old) (S.left script.new) }
-    ensures unread { (IsPlainCommand (map string_bytes words.now) → ⊥) → script.new ≡ script.old }
+    requires { AsksRight command }
+    ensures owes { Owes (DueFor command (S.left script.old) (Rises (S.faults script.old) (S.faults script.new))
+        (IsTrue V.tells) (V.content volume.old) (V.may_leave volume.old) (V.may_leave volume.new)
+        (V.moment volume.old) (V.moment volume.new) (V.left_since volume.old) (V.left_since volume.new)
+        (λ area. Rises (V.faults volume.old area) (V.faults volume.new area)))
+        (K.taken out.old) (K.taken out.new) (Rises (K.faults out.old) (K.faults out.new)) result }
+    ensures to_end { result ≡ Status.Done → TakesScript command → IsReadToEnd (S.left script.old) (S.left script.new) }
+    ensures unread { (TakesScript command → ⊥) → script.new ≡ script.old }
+    ensures volume { (command ≡ Some Command.Plain) ⊎ (command ≡ None) → volume.new ≡ volume.old }
     ensures kept { K.faults out.old ≤ K.faults out.new }
 {
-    if !is_plain(words) {
+    let Some(named) = command else {
         return Status::Usage;
+    };
+    match named {
+        Command::Plain => plain(alloc, script, out),
+        Command::Create { pages } => create(alloc, pages, volume, out),
+        Command::Turns => turns(alloc, volume, script, out),
+        Command::Restart => open(alloc, volume, out),
     }
-    plain(alloc, script, out)
 }
 
 /// Writes the line that tells of a status, and answers that status, or [`Status::Sink`] where the sink fails.
@@ -78,12 +87,12 @@ pub fn tell<K: Sink>(status: Status, out: &mut K) -> Status
     }
 }
 
-/// Does a command: reads its script from `script`, and writes what it prints to `out`. The volume is the
-/// one that later commands work on; `plain` does not touch it.
+/// Does a command on the volume: reads its script from `script`, and writes what it prints to `out`.
 ///
-/// The words are tested first, then the source fails if it does, then the limits are tested, bytes
-/// before lines, and then the lines, before any of them is done. A status other than [`Status::Done`]
-/// and [`Status::Sink`] is told by one last line.
+/// The words are tested first; words that are no command have no effect but the line that says so. Of a
+/// script the source fails first if it does, then the limits are tested, bytes before lines, and then the
+/// lines, before any of them is done. A status other than [`Status::Done`] and [`Status::Sink`] is told by
+/// one last line.
 pub fn run_command<V: Volume, S: Source, K: Sink>(
     alloc: Global,
     words: &[String],
@@ -91,20 +100,25 @@ pub fn run_command<V: Volume, S: Source, K: Sink>(
     script: &mut S,
     out: &mut K,
 ) -> Status
-    // What was written is what was due, and the status has its cause.
-    ensures answers { Answers (map string_bytes words.now) (S.left script.old) (K.taken out.old) (K.taken out.new)
+    // What was written is what was due for the command that the words are, the status has its cause, and so
+    // has each image that a crash might have left.
+    ensures answers { (command : Option Commands) × Names (map string_bytes words.now) command
+        × Answers (DueFor command (S.left script.old) (Rises (S.faults script.old) (S.faults script.new))
+        (IsTrue V.tells) (V.content volume.old) (V.may_leave volume.old) (V.may_leave volume.new)
+        (V.moment volume.old) (V.moment volume.new) (V.left_since volume.old) (V.left_since volume.new)
+        (λ area. Rises (V.faults volume.old area) (V.faults volume.new area)))
+        (K.taken out.old) (K.taken out.new) (Rises (K.faults out.old) (K.faults out.new)) result }
+    ensures complete { IsCommand (map string_bytes words.now) Command.Plain → IsComplete (S.left script.old)
         (Rises (S.faults script.old) (S.faults script.new)) (Rises (K.faults out.old) (K.faults out.new)) result }
-    ensures complete { IsComplete (map string_bytes words.now) (S.left script.old)
-        (Rises (S.faults script.old) (S.faults script.new)) (Rises (K.faults out.old) (K.faults out.new)) result }
-    ensures usage { (IsPlainCommand (map string_bytes words.now) → ⊥)
-        → (result ≡ Status.Usage) ⊎ ((result ≡ Status.Sink) × Rises (K.faults out.old) (K.faults out.new)) }
 
     // A script that was done was read to its end, and without the words for it nothing is read.
-    ensures to_end { result ≡ Status.Done → IsReadToEnd (S.left script.old) (S.left script.new) }
-    ensures unread { (IsPlainCommand (map string_bytes words.now) → ⊥) → script.new ≡ script.old }
-    ensures volume { volume.new ≡ volume.old }
+    ensures to_end { result ≡ Status.Done → HasScript (map string_bytes words.now) → IsReadToEnd (S.left script.old) (S.left script.new) }
+    ensures unread { (HasScript (map string_bytes words.now) → ⊥) → script.new ≡ script.old }
+
+    // The volume is for the commands that work on it.
+    ensures volume { IsCommand (map string_bytes words.now) Command.Plain ⊎ Names (map string_bytes words.now) None → volume.new ≡ volume.old }
 {
-    let _ = volume;
-    let status = do_command(alloc, words, script, out);
+    let command = command_of(words);
+    let status = do_command(alloc, command, volume, script, out);
     tell(status, out)
 }

@@ -6,12 +6,15 @@
 #![tactic(auto)]
 
 mod command;
+mod commands;
 mod plain;
 mod reading;
 mod statuses;
 mod stops;
 #[cfg(test)]
 mod tests;
+mod turns;
+mod volumes;
 mod writing;
 
 pub use command::{run_command, tell};

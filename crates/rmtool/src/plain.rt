@@ -1,13 +1,13 @@
 //! The command `plain`: the lines of one session over pages in memory.
 
-ghost use Rattle.std.specs.Prelude.{◌≡◌, ℕ, ◌+◌, ◌^◌, ◌<◌, ◌≤◌, List, [], length, OnOk, OnErr, IsErrOf};
-ghost use Rattle.rm_outside.specs.Faults.{Rises, HasCause};
+ghost use Rattle.std.specs.Prelude.{◌≡◌, ◌+◌, ◌^◌, ◌<◌, ◌≤◌, [], length, OnOk, IsErrOf};
+ghost use Rattle.rm_outside.specs.Faults.{Rises};
 ghost use Rattle.rm_model.specs.Session.{fresh};
-ghost use Rattle.rmtool.specs.Running.{Moves, Did, DidSome, DidAll, Broke};
+ghost use Rattle.rmtool.specs.Running.{Did, DidSome, DidAll, Broke};
 
 use crate::stops::Stop;
-use crate::writing::write_all;
-use rm_outside::{Failed, Sink};
+use crate::writing::{flush, flush_if_long};
+use rm_outside::Sink;
 use rm_script::reply_text;
 use rm_session::Session;
 use rm_types::{Line, Lsn};
@@ -15,34 +15,6 @@ use std::alloc::Global;
 
 /// How many pages the rows of `plain` are put in.
 pub const PAGES: u32 = 16;
-
-/// How many bytes of text are gathered before they are written.
-const BUFFER: usize = 65_536;
-
-/// Writes the text that was gathered.
-fn flush<K: Sink>(text: &mut Vec<u8>, out: &mut K) -> Result<(), Failed>
-    ensures ok { OnOk result (Moves (K.taken out.old) (K.taken out.new) text.old.items text.new.items) }
-    ensures empty { OnOk result (text.new.items ≡ []) }
-    ensures err { OnErr result ((rest : List ℕ) × Moves (K.taken out.old) (K.taken out.new) text.old.items rest) }
-    ensures cause { HasCause (K.faults out.old) (K.faults out.new) result }
-{
-    write_all(out, text.as_slice())?;
-    text.clear();
-    Ok(())
-}
-
-/// Writes the text that was gathered once it is long, so that fewer than [`BUFFER`] bytes of it stay.
-fn flush_if_long<K: Sink>(text: &mut Vec<u8>, out: &mut K) -> Result<(), Failed>
-    ensures ok { OnOk result (Moves (K.taken out.old) (K.taken out.new) text.old.items text.new.items) }
-    ensures short { OnOk result (length text.new.items < BUFFER) }
-    ensures err { OnErr result ((rest : List ℕ) × Moves (K.taken out.old) (K.taken out.new) text.old.items rest) }
-    ensures cause { HasCause (K.faults out.old) (K.faults out.new) result }
-{
-    if text.len() < BUFFER {
-        return Ok(());
-    }
-    flush(text, out)
-}
 
 /// Does the lines in order, and gathers their replies in `text`, which is written whenever it is long.
 fn do_lines<K: Sink>(

@@ -1,6 +1,13 @@
-use Rattle.std.proofs.lemmas.Bool.{false≢true}
-use Rattle.rmtool.proofs.AnswerLemmas.{owes_usage}
 use Rattle.rmtool.proofs.command.do_command.Goals as goal
 
-pub returns-then-not-is_plain-clause-owes : goal.returns-then-not-is_plain-clause-owes
-returns-then-not-is_plain-clause-owes g c = owes_usage _ _ _ _ _ (λ is_command. false≢true (c.if-not-is_plain.ensures.1 is_command))
+pub returns-in-Plain-clause-owes : goal.returns-in-Plain-clause-owes
+returns-in-Plain-clause-owes g c = rw (c.in-Some.is, c.in-Plain.is) c.plain.ensures.owes
+
+pub returns-in-Create-clause-owes : goal.returns-in-Create-clause-owes
+returns-in-Create-clause-owes g c = rw (c.in-Some.is, c.in-Create.is) c.create.ensures.owes
+
+pub returns-in-Turns-clause-owes : goal.returns-in-Turns-clause-owes
+returns-in-Turns-clause-owes g c = rw (c.in-Some.is, c.in-Turns.is) c.turns.ensures.owes
+
+pub returns-in-Restart-clause-owes : goal.returns-in-Restart-clause-owes
+returns-in-Restart-clause-owes g c = rw (c.in-Some.is, c.in-Restart.is) c.open.ensures.owes

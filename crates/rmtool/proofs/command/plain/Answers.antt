@@ -1,5 +1,5 @@
 use Rattle.std.proofs.Common.{length, arith, ap, Err}
-use Rattle.rmtool.proofs.AnswerLemmas.{owes_source, owes_memory, owes_refused, owes_front, owes_broke, few_lines}
+use Rattle.rmtool.proofs.PlainLemmas.{owes_source, owes_memory, owes_refused, owes_front, owes_broke, few_lines}
 use Rattle.rmtool.proofs.command.plain.Goals as goal
 
 pub returns-in-Err-Failed-clause-owes : goal.returns-in-Err-Failed-clause-owes

@@ -2,7 +2,7 @@ use Rattle.std.proofs.Common.{List, ℕ, take, drop, subst}
 use Rattle.std.proofs.lemmas.Result.{err_from_is_err_and}
 use Rattle.rm_outside.specs.Streams.{Takes}
 use Rattle.rmtool.proofs.RunningLemmas.{Moves-front}
-use Rattle.rmtool.proofs.plain.flush.Goals as goal
+use Rattle.rmtool.proofs.writing.flush.Goals as goal
 
 pub returns-in_err-write_all-clause-err : goal.returns-in_err-write_all-clause-err
 returns-in_err-write_all-clause-err g c =

@@ -1,0 +1,196 @@
+-- What is due at each exit of a session on a volume.
+use Rattle.std.proofs.Common.{◌≡◌, ◌⊎◌, inl, inr, ℕ, ◌+◌, ◌≤◌, Bool, true, false, List, [], ◌∷◌, ◌++◌, length, take, Option, Some, refl, sym, ap, ◌∙◌, subst, append_assoc, append-nil, arith}
+use Rattle.std.specs.Prelude.{MatchBool, slice_get}
+use Rattle.std.proofs.lemmas.Grind.{flat_map-append}
+use Rattle.std.proofs.lemmas.List.{take_at}
+use Rattle.std.proofs.Math.Seq.{take-length}
+use Rattle.rm_types.specs.declared.areas.Area.{Area}
+use Rattle.rm_types.specs.declared.areas.Area.TheVariants.{Log}
+use Rattle.rm_types.specs.declared.faults.Fault.{Fault}
+use Rattle.rm_types.specs.declared.faults.Fault.TheVariants as fault
+use Rattle.rm_types.specs.declared.lines.Line.{Line}
+use Rattle.rm_types.specs.declared.numbers.TheConstants.{MAX_LOG}
+use Rattle.rm_types.specs.declared.numbers.TxnId.{TxnId}
+use Rattle.rm_types.specs.declared.operations.Reply.{Reply}
+use Rattle.rm_model.specs.Session.{State, Run, Step}
+use Rattle.rm_model.specs.Texts.{turn_line, turn_lines}
+use Rattle.rm_model.proofs.Runs.{run_goes_on}
+use Rattle.rm_outside.specs.Streams.{Takes}
+use Rattle.rm_outside.proofs.StreamLemmas.{Takes-none, Takes-append}
+use Rattle.rm_wal.specs.Tails.{LogValue}
+use Rattle.rm_engine.specs.declared.faults.TurnFault.{TurnFault}
+use Rattle.rm_engine.specs.declared.faults.TurnFault.TheVariants as turn
+use Rattle.rm_engine.specs.Numbers.{LacksRoom, LacksIds}
+use Rattle.rmtool.specs.declared.turns.TheConstants.{SESSION}
+use Rattle.rmtool.specs.declared.statuses.Status.{Status}
+use Rattle.rmtool.specs.declared.statuses.Status.TheVariants as status
+use Rattle.rmtool.specs.Status.{error_line, of_turn, of_fault}
+use Rattle.rmtool.specs.Running.{Moves}
+use Rattle.rmtool.specs.Told.{Begins, is_sink, Owes}
+use Rattle.rmtool.specs.Turns.{RunTo, RunText, IsFull, IsSpent, unfinished_of}
+use Rattle.rmtool.specs.Turning.{Turned, Gathers}
+
+-- one reply more
+turn_more : (replies : List Reply) (told : Reply) → turn_lines SESSION (replies ++ told ∷ []) ≡ turn_lines SESSION replies ++ turn_line SESSION told
+turn_more replies told = flat_map-append (turn_line SESSION) replies (told ∷ []) ∙ ap (λ (t : List ℕ). turn_lines SESSION replies ++ t) (append-nil (turn_line SESSION told))
+
+-- nothing is done yet
+pub turned_none : (old : State) (Leaves : List Line → List Reply → Type 0) (a : Option (List ℕ)) (buffer : List ℕ) → buffer ≡ [] → Leaves [] [] → Turned old old [] Leaves a a buffer
+turned_none old Leaves a buffer empty leaves = record { replies = []; sent = []; run = refl; took = Takes-none a; text = empty; leaves = leaves }
+
+-- the same lines, of whose replies something else holds
+pub turned_leaves : (old new : State) (lines : List Line) (Leaves Then : List Line → List Reply → Type 0) (a b : Option (List ℕ)) (buffer : List ℕ) → ((replies : List Reply) → Leaves lines replies → Then lines replies)
+    → Turned old new lines Leaves a b buffer → Turned old new lines Then a b buffer
+turned_leaves old new lines Leaves Then a b buffer then_leaves turned = record {
+  replies = turned.replies;
+  sent = turned.sent;
+  run = turned.run;
+  took = turned.took;
+  text = turned.text;
+  leaves = then_leaves turned.replies turned.leaves;
+}
+
+module _ (old mid new : State) (lines : List Line) (said : Line) (told : Reply) (Leaves Then : List Line → List Reply → Type 0) (a b : Option (List ℕ)) (buffer : List ℕ)
+    (turned : Turned old mid lines Leaves a b buffer) (step : Step mid said told new) (leaves : Then (lines ++ said ∷ []) (turned.replies ++ told ∷ [])) where
+  -- one line more, whose reply goes into the buffer
+  pub turned_line : (c : Option (List ℕ)) (rest : List ℕ) → Moves b c (buffer ++ turn_line SESSION told) rest → Turned old new (lines ++ said ∷ []) Then a c rest
+  turned_line c rest moves = record {
+    replies = turned.replies ++ told ∷ [];
+    sent = turned.sent ++ moves.sent;
+    run = run_goes_on old mid new lines turned.replies said told turned.run step;
+    took = Takes-append a b c turned.sent moves.sent turned.took moves.took;
+    text =
+        append_assoc turned.sent moves.sent rest ∙ ap (λ (t : List ℕ). turned.sent ++ t) (sym moves.cut) ∙ sym (append_assoc turned.sent buffer (turn_line SESSION told))
+        ∙ ap (λ (t : List ℕ). t ++ turn_line SESSION told) turned.text ∙ sym (turn_more turned.replies told);
+    leaves = leaves;
+  }
+
+module _ (old : State) (lines : List Line) (Leaves : List Line → List Reply → Option Line → Type 0) (risen : Area → Type 0) (sink_failed : Type 0) (a b : Option (List ℕ)) where
+  abbrev Gathered : Status → List ℕ → Type 0
+  Gathered answer buffer = Gathers (RunText old lines Leaves risen) a b sink_failed answer buffer
+
+  abbrev At : ℕ → List Line → List Reply → Type 0
+  At count done replies = Leaves done replies (slice_get lines count)
+
+  abbrev run_to : (new : State) (count : ℕ) (buffer : List ℕ) → Turned old new (take count lines) (At count) a b buffer → RunTo old lines Leaves
+  run_to new count buffer turned = record { count = count; replies = turned.replies; last = new; run = turned.run; leaves = turned.leaves }
+
+  -- a turn was not made
+  pub gathers_turn : (new : State) (count : ℕ) (buffer : List ℕ) (turned : Turned old new (take count lines) (At count) a b buffer) (asked : Line) → slice_get lines count ≡ Some asked
+      → (log : LogValue) (inserts : ℕ) → log.limit ≡ MAX_LOG → (why : TurnFault) → ((end : ℕ) → why ≡ turn.LogFull end → LacksRoom new.core log inserts asked end)
+      → ((last : TxnId) → why ≡ turn.TxnsSpent last → LacksIds new.core asked last) → ((f : Fault) → why ≡ turn.Fault f → (f ≡ fault.Volume Log) × risen Log) → Gathered (of_turn why) buffer
+  gathers_turn new count buffer turned asked is_next log inserts limit (turn.Fault f) full spent cause =
+      subst (λ (f : Fault). Gathered (of_fault f) buffer) (sym (cause f refl).0)
+      (record {
+        sent = turned.sent;
+        took = turned.took;
+        written = ((cause f refl).1, (run_to new count buffer turned, ap (λ (t : List ℕ). t ++ error_line (status.Volume Log)) turned.text));
+      })
+  gathers_turn new count buffer turned asked is_next log inserts limit (turn.LogFull end) full spent cause = record {
+    sent = turned.sent;
+    took = turned.took;
+    written = (
+      run_to new count buffer turned,
+      record { asked = asked; is_next = is_next; log = log; inserts = inserts; limit = limit; lacks = full end refl },
+      ap (λ (t : List ℕ). t ++ error_line (status.LogFull end)) turned.text,
+    );
+  }
+  gathers_turn new count buffer turned asked is_next log inserts limit (turn.TxnsSpent last) full spent cause = record {
+    sent = turned.sent;
+    took = turned.took;
+    written = (
+      run_to new count buffer turned,
+      record { asked = asked; is_next = is_next; lacks = spent last refl },
+      ap (λ (t : List ℕ). t ++ error_line (status.TxnsSpent last)) turned.text,
+    );
+  }
+  gathers_turn new count buffer turned asked is_next log inserts limit turn.NoMemory full spent cause = record {
+    sent = turned.sent;
+    took = turned.took;
+    written = (
+      run_to new count buffer turned,
+      (
+        length turned.replies,
+        ap (λ (t : List ℕ). t ++ error_line status.NoMemory) turned.text
+            ∙ ap (λ (r : List Reply). turn_lines SESSION r ++ error_line status.NoMemory) (sym (take-length turned.replies)),
+      ),
+    );
+  }
+
+  -- the sink failed, whatever the buffer has
+  pub gathers_sink : (new : State) (count : ℕ) (rest buffer : List ℕ) → Turned old new (take count lines) (At count) a b rest → sink_failed → Gathered status.Sink buffer
+  gathers_sink new count rest buffer turned failed = record {
+    sent = turned.sent;
+    took = turned.took;
+    written = (failed, (status.Sink, turn_lines SESSION turned.replies, (run_to new count rest turned, refl), (rest, sym turned.text)));
+  }
+
+  -- memory ran out when the reply to one line more was written
+  pub gathers_unshown : (Before : List Line → List Reply → Type 0) (mid new : State) (count : ℕ) (asked : Line) (told : Reply) (buffer kept : List ℕ) (turned : Turned old mid (take count lines) Before a b buffer) → Step mid asked told new
+      → take count lines ++ asked ∷ [] ≡ take (count + 1) lines → At (count + 1) (take count lines ++ asked ∷ []) (turned.replies ++ told ∷ []) → kept ≡ buffer → Gathered status.NoMemory kept
+  gathers_unshown Before mid new count asked told buffer kept turned step more leaves same = record {
+    sent = turned.sent;
+    took = turned.took;
+    written = (
+      record {
+        count = count + 1;
+        replies = turned.replies ++ told ∷ [];
+        last = new;
+        run = subst (λ (l : List Line). Run old l (turned.replies ++ told ∷ []) new) more (run_goes_on old mid new (take count lines) turned.replies asked told turned.run step);
+        leaves = subst (λ (l : List Line). At (count + 1) l (turned.replies ++ told ∷ [])) more leaves;
+      },
+      (
+        length turned.replies,
+        ap (λ (t : List ℕ). (turned.sent ++ t) ++ error_line status.NoMemory) same ∙ ap (λ (t : List ℕ). t ++ error_line status.NoMemory) turned.text
+            ∙ ap (λ (r : List Reply). turn_lines SESSION r ++ error_line status.NoMemory) (sym (take_at turned.replies (told ∷ []) (length turned.replies) refl)),
+      ),
+    );
+  }
+
+  -- all of the lines were done
+  pub gathers_done : (new : State) (buffer more : List ℕ) → Turned old new lines (At (length lines)) a b buffer → more ≡ buffer ++ unfinished_of new → Gathered status.Done more
+  gathers_done new buffer more turned is_more = record {
+    sent = turned.sent;
+    took = turned.took;
+    written = (
+      record { count = length lines; replies = turned.replies; last = new; run = subst (λ (l : List Line). Run old l turned.replies new) (sym (take-length lines)) turned.run; leaves = subst (λ (l : List Line). At (length lines) l turned.replies) (sym (take-length lines)) turned.leaves },
+      omega arith,
+      append-nil (turned.sent ++ more) ∙ ap (λ (t : List ℕ). turned.sent ++ t) is_more ∙ sym (append_assoc turned.sent buffer (unfinished_of new)) ∙ ap (λ (t : List ℕ). t ++ unfinished_of new) turned.text,
+    );
+  }
+
+  -- all of them were done, and memory ran out then
+  pub gathers_unfinished : (new : State) (buffer kept : List ℕ) → Turned old new lines (At (length lines)) a b buffer → kept ≡ buffer → Gathered status.NoMemory kept
+  gathers_unfinished new buffer kept turned same = record {
+    sent = turned.sent;
+    took = turned.took;
+    written = (
+      record { count = length lines; replies = turned.replies; last = new; run = subst (λ (l : List Line). Run old l turned.replies new) (sym (take-length lines)) turned.run; leaves = subst (λ (l : List Line). At (length lines) l turned.replies) (sym (take-length lines)) turned.leaves },
+      (
+        length turned.replies,
+        ap (λ (t : List ℕ). (turned.sent ++ t) ++ error_line status.NoMemory) same ∙ ap (λ (t : List ℕ). t ++ error_line status.NoMemory) turned.text
+            ∙ ap (λ (r : List Reply). turn_lines SESSION r ++ error_line status.NoMemory) (sym (take-length turned.replies)),
+      ),
+    );
+  }
+
+module _ (old : State) (lines : List Line) (Leaves : List Line → List Reply → Option Line → Type 0) (risen : Area → Type 0) (sink_failed : Type 0) (a b c : Option (List ℕ)) where
+  -- a reply was not gathered, or not written
+  pub gathers_of_reply : (Before : List Line → List Reply → Type 0) (mid new : State) (count : ℕ) (asked : Line) (told : Reply) (buffer kept : List ℕ) (turned : Turned old mid (take count lines) Before a b buffer) → Step mid asked told new
+      → take count lines ++ asked ∷ [] ≡ take (count + 1) lines → Leaves (take count lines ++ asked ∷ []) (turned.replies ++ told ∷ []) (slice_get lines (count + 1))
+      → (answer : Status) → (answer ≡ status.NoMemory) ⊎ (answer ≡ status.Sink)
+      → (answer ≡ status.NoMemory → (c ≡ b) × (kept ≡ buffer))
+      → (answer ≡ status.Sink → sink_failed × ((rest : List ℕ) × Moves b c (buffer ++ turn_line SESSION told) rest))
+      → Gathers (RunText old lines Leaves risen) a c sink_failed answer kept
+  gathers_of_reply Before mid new count asked told buffer kept turned step more leaves answer (inl memory) no_memory broke =
+      let same = no_memory memory in
+      subst (λ (s : Status). Gathers (RunText old lines Leaves risen) a c sink_failed s kept) (sym memory)
+      (subst (λ (o : Option (List ℕ)). Gathers (RunText old lines Leaves risen) a o sink_failed status.NoMemory kept) (sym same.0)
+      (gathers_unshown old lines Leaves risen sink_failed a b Before mid new count asked told buffer kept turned step more leaves same.1))
+  gathers_of_reply Before mid new count asked told buffer kept turned step more leaves answer (inr sink) no_memory broke =
+      let cut = broke sink in
+      let Then : List Line → List Reply → Type 0 = λ done replies. Leaves done replies (slice_get lines (count + 1)) in
+      let longer = turned_line old mid new (take count lines) asked told Before Then a b buffer turned step leaves c cut.1.0 cut.1.1 in
+      let whole = subst (λ (l : List Line). Turned old new l Then a c cut.1.0) more longer in
+      subst (λ (s : Status). Gathers (RunText old lines Leaves risen) a c sink_failed s kept) (sym sink)
+      (gathers_sink old lines Leaves risen sink_failed a c new (count + 1) cut.1.0 kept whole cut.0)
