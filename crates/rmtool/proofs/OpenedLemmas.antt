@@ -1,12 +1,10 @@
 -- What is due for the lines of a script, on a volume that was opened.
-use Rattle.std.proofs.Common.{◌≡◌, ◌⊎◌, inl, inr, ℕ, ◌+◌, ◌≤◌, Bool, true, false, List, [], ◌∷◌, ◌++◌, length, take, Option, Some, None, Result, Err, refl, sym, ap, ◌∙◌, subst, append_assoc, append-nil, arith}
+use Rattle.std.proofs.Common.{◌≡◌, inl, inr, ℕ, Bool, true, false, List, [], ◌++◌, Option, Result, Err, refl, sym, ap, ◌∙◌, subst, append_assoc, append-nil}
 use Rattle.std.specs.Prelude.{MatchBool}
 use Rattle.rm_types.specs.declared.areas.Area.{Area}
-use Rattle.rm_types.specs.declared.faults.Fault.{Fault}
 use Rattle.rm_types.specs.declared.faults.Fault.TheVariants as fault
 use Rattle.rm_types.specs.declared.lines.Line.{Line}
 use Rattle.rm_types.specs.declared.slots.Slot.{Slot}
-use Rattle.rm_types.specs.declared.numbers.Lsn.{Lsn}
 use Rattle.rm_types.specs.declared.numbers.TheConstants.{MAX_LOG}
 use Rattle.rm_types.specs.declared.numbers.TxnId.{TxnId}
 use Rattle.rm_types.specs.declared.operations.Reply.{Reply}
@@ -16,7 +14,7 @@ use Rattle.rm_outside.specs.Moments.{LeavesOnly, joined, weaker}
 use Rattle.rm_outside.specs.Streams.{Takes}
 use Rattle.rm_outside.proofs.StreamLemmas.{Takes-none, Takes-append}
 use Rattle.rm_model.specs.Object.{Rows}
-use Rattle.rm_model.specs.Session.{State, Core, opened}
+use Rattle.rm_model.specs.Session.{State, opened}
 use Rattle.rm_master.specs.Slots.{IsUnmade}
 use Rattle.rm_history.specs.Logs.{Batch}
 use Rattle.rm_history.specs.Histories.{history_of, rows_of_log, commits}
@@ -33,9 +31,9 @@ use Rattle.rmtool.specs.declared.statuses.Status.{Status}
 use Rattle.rmtool.specs.declared.statuses.Status.TheVariants as status
 use Rattle.rmtool.specs.Status.{error_line, of_restart}
 use Rattle.rmtool.specs.Running.{Moves}
-use Rattle.rmtool.specs.Told.{Begins, is_sink, IsWritten, Owes}
+use Rattle.rmtool.specs.Told.{Begins, is_sink, Owes}
 use Rattle.rmtool.specs.Volumes.{RefusedText}
-use Rattle.rmtool.specs.Turns.{RunTo, RunText, HasRunImages, OpenedText, LinesDue}
+use Rattle.rmtool.specs.Turns.{RunTo, RunText, HasRunImages, LinesDue}
 use Rattle.rmtool.specs.Turning.{LeavesRun, Gathers}
 
 -- a run of which more holds

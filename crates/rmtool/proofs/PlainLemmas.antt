@@ -1,5 +1,5 @@
 -- What is due at each exit of the command `plain`.
-use Rattle.std.proofs.Common.{◌≡◌, ℕ, suc, ◌≤◌, Bool, true, false, List, [], ◌∷◌, ◌++◌, length, take, drop, Option, Some, None, refl, sym, ap, ◌∙◌, subst, append_assoc, append-nil, length-append, codes, inl, inr, ◌⊎◌, arith}
+use Rattle.std.proofs.Common.{◌≡◌, ℕ, suc, ◌≤◌, Bool, true, false, List, [], ◌∷◌, ◌++◌, length, take, drop, Option, Some, None, refl, sym, ap, ◌∙◌, subst, append_assoc, append-nil, length-append, inl, inr, ◌⊎◌, arith}
 use Rattle.std.proofs.lemmas.Grind.{flat_map-append}
 use Rattle.std.proofs.lemmas.List.{take-append-drop, take_at}
 use Rattle.rm_types.specs.declared.lines.Line.{Line}
@@ -18,11 +18,11 @@ use Rattle.rm_script.specs.declared.refused.ScriptRefused.TheVariants as refused
 use Rattle.rmtool.specs.declared.plain.TheConstants.{PAGES}
 use Rattle.rmtool.specs.declared.statuses.Status.{Status}
 use Rattle.rmtool.specs.declared.statuses.Status.TheVariants as status
-use Rattle.rmtool.specs.Status.{error_line, status_of}
+use Rattle.rmtool.specs.Status.{status_of}
 use Rattle.rmtool.specs.Reading.{HasLeft, Reads}
 use Rattle.rmtool.specs.Running.{DidSome, DidAll, Broke}
 use Rattle.std.specs.Prelude.{MatchBool}
-use Rattle.rmtool.specs.Told.{is_sink, IsWritten, Answers, Owes}
+use Rattle.rmtool.specs.Told.{is_sink, Answers, Owes}
 use Rattle.rmtool.specs.Plain.{Draws, IsDueFor, PlainDue, IsComplete}
 
 -- the bytes that a source has, where it tells them

@@ -1,5 +1,5 @@
 -- What is due for `turns`, by how far its script was read.
-use Rattle.std.proofs.Common.{◌≡◌, ℕ, Bool, true, false, List, [], ◌++◌, Option, refl, inl, inr, ◌⊎◌}
+use Rattle.std.proofs.Common.{ℕ, Bool, true, false, List, [], Option, refl, inl, inr}
 use Rattle.std.specs.Prelude.{MatchBool}
 use Rattle.rm_types.specs.declared.areas.Area.{Area}
 use Rattle.rm_types.specs.declared.lines.Line.{Line}
@@ -12,9 +12,9 @@ use Rattle.rm_script.specs.declared.refused.ScriptRefused.{ScriptRefused}
 use Rattle.rm_script.specs.declared.refused.ScriptRefused.TheVariants as refused
 use Rattle.rmtool.specs.declared.statuses.Status.{Status}
 use Rattle.rmtool.specs.declared.statuses.Status.TheVariants as status
-use Rattle.rmtool.specs.Status.{error_line, status_of}
+use Rattle.rmtool.specs.Status.{status_of}
 use Rattle.rmtool.specs.Reading.{Reads}
-use Rattle.rmtool.specs.Told.{Begins, is_sink, IsWritten, Owes}
+use Rattle.rmtool.specs.Told.{Begins, is_sink, Owes}
 use Rattle.rmtool.specs.Turns.{LinesDue, TurnsDue}
 use Rattle.rmtool.proofs.PlainLemmas.{some_left, all_read, too_much}
 

@@ -1,22 +1,22 @@
 -- Where a session stands behind its lines, and what its images have.
-use Rattle.std.proofs.Common.{◌≡◌, ◌⊎◌, inl, inr, ℕ, ◌+◌, ◌≤◌, Bool, true, false, List, [], ◌∷◌, ◌++◌, Option, Some, None, refl, sym, ap, ◌∙◌, subst, arith}
+use Rattle.std.proofs.Common.{◌≡◌, inl, inr, ℕ, ◌+◌, ◌≤◌, true, List, [], ◌∷◌, ◌++◌, Option, Some, ap, ◌∙◌, subst, arith}
 use Rattle.rm_types.specs.declared.lines.Line.{Line}
 use Rattle.rm_types.specs.declared.lines.Line.TheVariants as line
 use Rattle.rm_types.specs.declared.operations.Reply.{Reply}
 use Rattle.rm_outside.specs.Images.{Image}
 use Rattle.rm_outside.specs.Moments.{LeavesOnly, started, joined, weaker}
 use Rattle.rm_model.specs.Object.{Rows}
-use Rattle.rm_model.specs.Session.{State, Core, Step, rows_of}
+use Rattle.rm_model.specs.Session.{Core, Step, rows_of}
 use Rattle.rm_wal.specs.Tails.{LogValue}
 use Rattle.rm_restart.specs.Sound.{Holds}
 use Rattle.rm_engine.specs.declared.engine.Engine.{Engine}
-use Rattle.rm_engine.specs.At.{IsAt, LeftByTurn, IsCommitOf, count_after, committed_after}
-use Rattle.rm_engine.specs.Runs.{acknowledged, rows_after, HasFirst, HasAcknowledged, IsWithin, IsAfter}
+use Rattle.rm_engine.specs.At.{IsAt, LeftByTurn, count_after, committed_after}
+use Rattle.rm_engine.specs.Runs.{acknowledged, rows_after, IsWithin, IsAfter}
 use Rattle.rm_engine.proofs.Changed.{changes}
 use Rattle.rm_engine.proofs.After.{after_step}
 use Rattle.rm_engine.proofs.Behind.{begun_busy, within_stays}
 use Rattle.rm_engine.proofs.RunImages.{within_now, acknowledged_now, acknowledged_left, within_left, opened_after}
-use Rattle.rmtool.specs.Turns.{HasAsked, commit_of}
+use Rattle.rmtool.specs.Turns.{HasAsked}
 use Rattle.rmtool.specs.Turning.{StandsBehind, LeavesRun}
 
 -- no more than was acknowledged is no more than was asked for

@@ -1,6 +1,6 @@
 -- What is due at each exit of a session on a volume.
-use Rattle.std.proofs.Common.{◌≡◌, ◌⊎◌, inl, inr, ℕ, ◌+◌, ◌≤◌, Bool, true, false, List, [], ◌∷◌, ◌++◌, length, take, Option, Some, refl, sym, ap, ◌∙◌, subst, append_assoc, append-nil, arith}
-use Rattle.std.specs.Prelude.{MatchBool, slice_get}
+use Rattle.std.proofs.Common.{◌≡◌, ◌⊎◌, inl, inr, ℕ, ◌+◌, List, [], ◌∷◌, ◌++◌, length, take, Option, Some, refl, sym, ap, ◌∙◌, subst, append_assoc, append-nil, arith}
+use Rattle.std.specs.Prelude.{slice_get}
 use Rattle.std.proofs.lemmas.Grind.{flat_map-append}
 use Rattle.std.proofs.lemmas.List.{take_at}
 use Rattle.std.proofs.Math.Seq.{take-length}
@@ -15,7 +15,6 @@ use Rattle.rm_types.specs.declared.operations.Reply.{Reply}
 use Rattle.rm_model.specs.Session.{State, Run, Step}
 use Rattle.rm_model.specs.Texts.{turn_line, turn_lines}
 use Rattle.rm_model.proofs.Runs.{run_goes_on}
-use Rattle.rm_outside.specs.Streams.{Takes}
 use Rattle.rm_outside.proofs.StreamLemmas.{Takes-none, Takes-append}
 use Rattle.rm_wal.specs.Tails.{LogValue}
 use Rattle.rm_engine.specs.declared.faults.TurnFault.{TurnFault}
@@ -26,8 +25,7 @@ use Rattle.rmtool.specs.declared.statuses.Status.{Status}
 use Rattle.rmtool.specs.declared.statuses.Status.TheVariants as status
 use Rattle.rmtool.specs.Status.{error_line, of_turn, of_fault}
 use Rattle.rmtool.specs.Running.{Moves}
-use Rattle.rmtool.specs.Told.{Begins, is_sink, Owes}
-use Rattle.rmtool.specs.Turns.{RunTo, RunText, IsFull, IsSpent, unfinished_of}
+use Rattle.rmtool.specs.Turns.{RunTo, RunText, unfinished_of}
 use Rattle.rmtool.specs.Turning.{Turned, Gathers}
 
 -- one reply more

@@ -3,7 +3,6 @@ use Rattle.std.proofs.Common.{◌≡◌, ℕ, Bool, false, List, [], ◌++◌, t
 use Rattle.std.proofs.lemmas.List.{take-append-drop}
 use Rattle.std.specs.Prelude.{MatchBool}
 use Rattle.rm_types.specs.declared.areas.Area.{Area}
-use Rattle.rm_types.specs.declared.faults.Fault.{Fault}
 use Rattle.rm_types.specs.declared.faults.Fault.TheVariants as fault
 use Rattle.rm_types.specs.declared.numbers.TxnId.{TxnId}
 use Rattle.rm_outside.specs.Faults.{Rises}
@@ -18,7 +17,7 @@ use Rattle.rm_restart.specs.declared.faults.RestartFault.TheVariants as restart
 use Rattle.rmtool.specs.declared.statuses.Status.{Status}
 use Rattle.rmtool.specs.declared.statuses.Status.TheVariants as status
 use Rattle.rmtool.specs.Status.{error_line, of_restart}
-use Rattle.rmtool.specs.Told.{is_sink, IsWritten, Owes}
+use Rattle.rmtool.specs.Told.{is_sink, Owes}
 use Rattle.rmtool.specs.Volumes.{RestartText, RestartDue}
 
 -- the sink took a front of the text of a command that was done

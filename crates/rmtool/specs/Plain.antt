@@ -1,9 +1,9 @@
 -- What the program prints for its words and its input, and why.
-use Rattle.std.specs.Prelude.{◌≡◌, ℕ, ◌≤◌, ◌<◌, List, [], ◌∷◌, ◌++◌, length, take, codes, Option, Some, ◌⊎◌}
+use Rattle.std.specs.Prelude.{◌≡◌, ℕ, List, [], ◌++◌, take, Option, Some, ◌⊎◌}
 use Rattle.rm_types.specs.declared.lines.Line.{Line}
 use Rattle.rm_types.specs.declared.operations.Reply.{Reply}
 use Rattle.rm_model.specs.Session.{State, Run, fresh}
-use Rattle.rm_model.specs.Grammar.{lines_of, IsPlain, IsFirstWrong, IsWithinLimits}
+use Rattle.rm_model.specs.Grammar.{IsPlain, IsFirstWrong, IsWithinLimits}
 use Rattle.rm_model.specs.Texts.{texts_of}
 use Rattle.rm_script.specs.Refusals.{HasTooMuch}
 use Rattle.rmtool.specs.declared.plain.TheConstants.{PAGES}

@@ -1,5 +1,5 @@
 -- How far the lines of a session on a volume were done, and their replies written.
-use Rattle.std.specs.Prelude.{◌≡◌, ℕ, ◌≤◌, false, List, [], ◌++◌, length, take, Option, MatchBool}
+use Rattle.std.specs.Prelude.{◌≡◌, ℕ, false, List, ◌++◌, Option, MatchBool}
 use Rattle.rm_types.specs.declared.lines.Line.{Line}
 use Rattle.rm_types.specs.declared.operations.Reply.{Reply}
 use Rattle.rm_outside.specs.Images.{Image}

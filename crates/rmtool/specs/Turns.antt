@@ -1,5 +1,5 @@
 -- What is due for `turns`.
-use Rattle.std.specs.Prelude.{◌≡◌, ℕ, ◌+◌, ◌-◌, ◌≤◌, Bool, true, false, List, [], ◌++◌, length, take, slice_get, Option, Some, ◌⊎◌, if◌then◌else◌}
+use Rattle.std.specs.Prelude.{◌≡◌, ℕ, ◌+◌, ◌-◌, ◌≤◌, List, [], ◌++◌, length, take, slice_get, Option, Some, ◌⊎◌, if◌then◌else◌}
 use Rattle.rm_types.specs.declared.areas.Area.{Area}
 use Rattle.rm_types.specs.declared.lines.Line.{Line}
 use Rattle.rm_types.specs.declared.lines.Line.TheVariants as line

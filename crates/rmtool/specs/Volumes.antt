@@ -1,5 +1,5 @@
 -- What is due for the commands that make a volume and open it.
-use Rattle.std.specs.Prelude.{◌≡◌, ℕ, List, ◌++◌, ◌⊎◌}
+use Rattle.std.specs.Prelude.{◌≡◌, ℕ, List, ◌⊎◌}
 use Rattle.rm_types.specs.declared.areas.Area.{Area}
 use Rattle.rm_types.specs.declared.areas.Area.TheVariants.{Master}
 use Rattle.rm_types.specs.declared.slots.Slot.{Slot}

@@ -1,4 +1,4 @@
-use Rattle.std.proofs.Common.{◌≡◌, ℕ, ◌≤◌, ◌∙◌, List, Option, ap, sym, refl, subst, length, map, Err, IsTrue, inl, arith}
+use Rattle.std.proofs.Common.{ℕ, ◌∙◌, List, sym, refl, map, IsTrue}
 use Rattle.rm_types.specs.declared.areas.Area.{Area}
 use Rattle.rm_types.specs.declared.slots.Slot.{Slot}
 use Rattle.rm_outside.specs.Faults.{Rises}

@@ -1,12 +1,10 @@
-use Rattle.std.proofs.Common.{◌≡◌, ℕ, List, Option, ap, sym, subst, length}
+use Rattle.std.proofs.Common.{List, Option, length}
 use Rattle.std.specs.Prelude.{slice_get}
 use Rattle.rm_types.specs.declared.areas.Area.{Area}
 use Rattle.rm_types.specs.declared.lines.Line.{Line}
 use Rattle.rm_types.specs.declared.operations.Reply.{Reply}
 use Rattle.rm_outside.specs.Faults.{Rises}
-use Rattle.rmtool.specs.declared.statuses.Status.{Status}
-use Rattle.rmtool.specs.Turns.{RunText}
-use Rattle.rmtool.specs.Turning.{LeavesRun, Gathers}
+use Rattle.rmtool.specs.Turning.{LeavesRun}
 use Rattle.rmtool.proofs.TurnLemmas.{turned_leaves, gathers_done, gathers_unfinished}
 use Rattle.rmtool.proofs.turns.do_session.Goals as goal
 

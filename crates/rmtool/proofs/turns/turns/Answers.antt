@@ -1,5 +1,4 @@
-use Rattle.std.proofs.Common.{◌≡◌, ap, Err}
-use Rattle.rmtool.proofs.PlainLemmas.{all_read}
+use Rattle.std.proofs.Common.{ap, Err}
 use Rattle.rmtool.proofs.ScriptLemmas.{owes_source, owes_memory, owes_refused, owes_lines}
 use Rattle.rmtool.proofs.turns.turns.Goals as goal
 
