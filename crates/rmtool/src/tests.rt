@@ -1,16 +1,17 @@
 //! The command as its user sees it, over a source and a sink in memory.
 
+mod devices;
 mod fakes;
 
 use crate::statuses::LINE_ROOM;
-use crate::{FOLDER, Status, run_command};
+use crate::{Status, run_command};
 use fakes::{FakeSink, FakeSource, Fault};
-use rm_files::FileVolume;
+use rm_memory::MemVolume;
 use rm_types::{MAX_BYTES, MAX_LINES, MAX_ROW, Which};
 use std::alloc::{AllocError, Global};
 use std::test::Fail;
 
-/// The one command that there is.
+/// The command that works on no volume.
 const PLAIN: &[&str] = &["plain"];
 
 /// A command and its script, and what is due for them.
@@ -39,7 +40,7 @@ fn run(
     sink: &mut FakeSink,
 ) -> Result<Status, AllocError> {
     let words = strings(rt.alloc(), words)?;
-    let mut volume = FileVolume::new(rt.alloc(), rt, FOLDER)?;
+    let mut volume = MemVolume::new(rt.alloc());
     Ok(run_command(rt.alloc(), words.as_slice(), &mut volume, source, sink))
 }
 
@@ -423,9 +424,7 @@ fn memory_is_told_or_not_needed(rt: HostRuntime) {
     let Ok((words, mut source, mut sink)) = with_room(rt.alloc()) else {
         return;
     };
-    let Ok(mut volume) = FileVolume::new(rt.alloc(), &rt, FOLDER) else {
-        return;
-    };
+    let mut volume = MemVolume::new(rt.alloc());
     let status = run_command(
         rt.alloc(),
         words.as_slice(),
