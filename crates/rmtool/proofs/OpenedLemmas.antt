@@ -175,27 +175,29 @@ module _ {T : Type 0} (told : Type 0) (content : Image) (left leaves : Image →
   refused : (why : RestartFault) → result ≡ Err why
       → (result ≡ Err restart.NotMade → told → IsUnmade content)
       → ((area : Area) (at : ℕ) → result ≡ Err (restart.Fault (fault.Damaged area at)) → told → IsDamage content area at)
+      → ((area : Area) (at : ℕ) → result ≡ Err (restart.Fault (fault.Damaged area at)) → told → IsUnmade content → ⊥)
       → ((txn : TxnId) → result ≡ Err (restart.NeedsUndo txn) → NeedsUndoOf told content txn.0)
       → ((area : Area) → result ≡ Err (restart.Fault (fault.Volume area)) → Rises (was area) (is area))
       → RefusedText told content (λ area. Rises (was area) (is area)) (of_restart why) (error_line (of_restart why))
-  refused restart.NotMade is_err not_made damaged needs_undo cause = (not_made is_err, refl)
-  refused (restart.NeedsUndo txn) is_err not_made damaged needs_undo cause = (needs_undo txn is_err, refl)
-  refused (restart.Fault (fault.Volume area)) is_err not_made damaged needs_undo cause = (cause area is_err, refl)
-  refused (restart.Fault (fault.Damaged area at)) is_err not_made damaged needs_undo cause = (damaged area at is_err, refl)
-  refused restart.NoMemory is_err not_made damaged needs_undo cause = refl
+  refused restart.NotMade is_err not_made damaged made needs_undo cause = (not_made is_err, refl)
+  refused (restart.NeedsUndo txn) is_err not_made damaged made needs_undo cause = (needs_undo txn is_err, refl)
+  refused (restart.Fault (fault.Volume area)) is_err not_made damaged made needs_undo cause = (cause area is_err, refl)
+  refused (restart.Fault (fault.Damaged area at)) is_err not_made damaged made needs_undo cause = (made area at is_err, damaged area at is_err, refl)
+  refused restart.NoMemory is_err not_made damaged made needs_undo cause = refl
 
   -- the volume was not opened
   pub owes_unopened : (why : RestartFault) → result ≡ Err why
       → (result ≡ Err restart.NotMade → told → IsUnmade content)
       → ((area : Area) (at : ℕ) → result ≡ Err (restart.Fault (fault.Damaged area at)) → told → IsDamage content area at)
+      → ((area : Area) (at : ℕ) → result ≡ Err (restart.Fault (fault.Damaged area at)) → told → IsUnmade content → ⊥)
       → ((txn : TxnId) → result ≡ Err (restart.NeedsUndo txn) → NeedsUndoOf told content txn.0)
       → ((area : Area) → result ≡ Err (restart.Fault (fault.Volume area)) → Rises (was area) (is area))
       → LeavesOnly before now past since left
       → Owes (LinesDue told content left leaves before now past since (λ area. Rises (was area) (is area)) lines) a a sink_failed (of_restart why)
-  owes_unopened why is_err not_made damaged needs_undo cause images =
+  owes_unopened why is_err not_made damaged made needs_undo cause images =
       let Due : Status → List ℕ → Type 0 = LinesDue told content left leaves before now past since (λ area. Rises (was area) (is area)) lines in
       let answer = of_restart why in
-      let due : Due answer (error_line answer) = inl (images, refused why is_err not_made damaged needs_undo cause) in
+      let due : Due answer (error_line answer) = inl (images, refused why is_err not_made damaged made needs_undo cause) in
       record {
         text = [];
         took = Takes-none a;

@@ -48,28 +48,30 @@ not_sink restart.NoMemory = refl
 unopened : {T : Type 0} (told : Type 0) (content : Image) (was is : Area → ℕ) (result : Result T RestartFault) (why : RestartFault) → result ≡ Err why
     → (result ≡ Err restart.NotMade → told → IsUnmade content)
     → ((area : Area) (at : ℕ) → result ≡ Err (restart.Fault (fault.Damaged area at)) → told → IsDamage content area at)
+    → ((area : Area) (at : ℕ) → result ≡ Err (restart.Fault (fault.Damaged area at)) → told → IsUnmade content → ⊥)
     → ((txn : TxnId) → result ≡ Err (restart.NeedsUndo txn) → NeedsUndoOf told content txn.0)
     → ((area : Area) → result ≡ Err (restart.Fault (fault.Volume area)) → Rises (was area) (is area))
     → RestartText told content (λ area. Rises (was area) (is area)) (of_restart why) (error_line (of_restart why))
-unopened told content was is result restart.NotMade is_err not_made damaged needs_undo cause = (not_made is_err, refl)
-unopened told content was is result (restart.NeedsUndo txn) is_err not_made damaged needs_undo cause = (needs_undo txn is_err, refl)
-unopened told content was is result (restart.Fault (fault.Volume area)) is_err not_made damaged needs_undo cause = (cause area is_err, refl)
-unopened told content was is result (restart.Fault (fault.Damaged area at)) is_err not_made damaged needs_undo cause = (damaged area at is_err, refl)
-unopened told content was is result restart.NoMemory is_err not_made damaged needs_undo cause = refl
+unopened told content was is result restart.NotMade is_err not_made damaged made needs_undo cause = (not_made is_err, refl)
+unopened told content was is result (restart.NeedsUndo txn) is_err not_made damaged made needs_undo cause = (needs_undo txn is_err, refl)
+unopened told content was is result (restart.Fault (fault.Volume area)) is_err not_made damaged made needs_undo cause = (cause area is_err, refl)
+unopened told content was is result (restart.Fault (fault.Damaged area at)) is_err not_made damaged made needs_undo cause = (made area at is_err, damaged area at is_err, refl)
+unopened told content was is result restart.NoMemory is_err not_made damaged made needs_undo cause = refl
 
 -- the volume was not opened
 pub owes_unopened : {T : Type 0} (told : Type 0) (content : Image) (left : Image → Type 0) (before now : ℕ) (past since : ℕ → Image → Type 0) (was is : Area → ℕ)
     (a : Option (List ℕ)) (sink_failed : Type 0) (result : Result T RestartFault) (why : RestartFault) → result ≡ Err why
     → (result ≡ Err restart.NotMade → told → IsUnmade content)
     → ((area : Area) (at : ℕ) → result ≡ Err (restart.Fault (fault.Damaged area at)) → told → IsDamage content area at)
+    → ((area : Area) (at : ℕ) → result ≡ Err (restart.Fault (fault.Damaged area at)) → told → IsUnmade content → ⊥)
     → ((txn : TxnId) → result ≡ Err (restart.NeedsUndo txn) → NeedsUndoOf told content txn.0)
     → ((area : Area) → result ≡ Err (restart.Fault (fault.Volume area)) → Rises (was area) (is area))
     → LeavesOnly before now past since left
     → Owes (RestartDue told content left before now past since (λ area. Rises (was area) (is area))) a a sink_failed (of_restart why)
-owes_unopened told content left before now past since was is a sink_failed result why is_err not_made damaged needs_undo cause images =
+owes_unopened told content left before now past since was is a sink_failed result why is_err not_made damaged made needs_undo cause images =
     let Due : Status → List ℕ → Type 0 = RestartDue told content left before now past since (λ area. Rises (was area) (is area)) in
     let answer = of_restart why in
-    let due : Due answer (error_line answer) = record { texts = unopened told content was is result why is_err not_made damaged needs_undo cause; images = images } in
+    let due : Due answer (error_line answer) = record { texts = unopened told content was is result why is_err not_made damaged made needs_undo cause; images = images } in
     record {
       text = [];
       took = Takes-none a;

@@ -22,7 +22,7 @@ IsMade content = content Master MADE_AT ≡ MADE
 
 -- the text of `create`, and why its status comes; made at last is the volume if it is done
 abbrev pub CreateText : ℕ → Type 0 → Image → (Image → Type 0) → (Area → Type 0) → Status → List ℕ → Type 0
-CreateText pages told content leaves risen status.Done text = ((c : Image) → leaves c → IsFresh pages c) × (text ≡ created_line pages)
+CreateText pages told content leaves risen status.Done text = (told → IsMade content → ⊥) × ((c : Image) → leaves c → IsFresh pages c) × (text ≡ created_line pages)
 CreateText pages told content leaves risen (status.Volume area) text = risen area × (text ≡ error_line (status.Volume area))
 CreateText pages told content leaves risen status.AlreadyMade text = (told → IsMade content) × (text ≡ error_line status.AlreadyMade)
 CreateText pages told content leaves risen status.NoMemory text = text ≡ error_line status.NoMemory
@@ -39,7 +39,7 @@ pub record CreateDue (pages : ℕ) (told : Type 0) (content : Image) (left leave
 abbrev pub RefusedText : Type 0 → Image → (Area → Type 0) → Status → List ℕ → Type 0
 RefusedText told content risen (status.Volume area) text = risen area × (text ≡ error_line (status.Volume area))
 RefusedText told content risen status.NotMade text = (told → IsUnmade content) × (text ≡ error_line status.NotMade)
-RefusedText told content risen (status.Damaged area at) text = (told → IsDamage content area at) × (text ≡ error_line (status.Damaged area at))
+RefusedText told content risen (status.Damaged area at) text = (told → IsUnmade content → ⊥) × (told → IsDamage content area at) × (text ≡ error_line (status.Damaged area at))
 RefusedText told content risen (status.NeedsUndo txn) text = NeedsUndoOf told content txn.0 × (text ≡ error_line (status.NeedsUndo txn))
 RefusedText told content risen status.NoMemory text = text ≡ error_line status.NoMemory
 RefusedText told content risen other text = ⊥

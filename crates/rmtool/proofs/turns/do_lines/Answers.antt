@@ -11,7 +11,7 @@ use Rattle.rmtool.proofs.turns.do_lines.Goals as goal
 
 pub returns-in-Err-clause-owes : goal.returns-in-Err-clause-owes
 returns-in-Err-clause-owes g c =
-    rw c.from.ensures (owes_unopened _ _ _ _ _ _ _ _ _ _ _ _ _ _ _ refl c.in-Err.ensures.not_made c.in-Err.ensures.damaged c.in-Err.ensures.needs_undo c.in-Err.ensures.cause c.in-Err.ensures.reads.time)
+    rw c.from.ensures (owes_unopened _ _ _ _ _ _ _ _ _ _ _ _ _ _ _ refl c.in-Err.ensures.not_made c.in-Err.ensures.damaged c.in-Err.ensures.made c.in-Err.ensures.needs_undo c.in-Err.ensures.cause c.in-Err.ensures.reads.time)
 
 pub returns-then-is_sink-clause-owes : goal.returns-then-is_sink-clause-owes
 returns-then-is_sink-clause-owes g c =

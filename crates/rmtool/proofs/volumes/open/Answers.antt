@@ -4,7 +4,7 @@ use Rattle.rmtool.proofs.volumes.open.Goals as goal
 
 pub returns-in-Err-clause-owes : goal.returns-in-Err-clause-owes
 returns-in-Err-clause-owes g c =
-    rw c.from.ensures (owes_unopened _ _ _ _ _ _ _ _ _ _ _ _ _ refl c.in-Err.ensures.not_made c.in-Err.ensures.damaged c.in-Err.ensures.needs_undo c.in-Err.ensures.cause c.in-Err.ensures.reads.time)
+    rw c.from.ensures (owes_unopened _ _ _ _ _ _ _ _ _ _ _ _ _ refl c.in-Err.ensures.not_made c.in-Err.ensures.damaged c.in-Err.ensures.made c.in-Err.ensures.needs_undo c.in-Err.ensures.cause c.in-Err.ensures.reads.time)
 
 pub returns-clause-owes : goal.returns-clause-owes
 returns-clause-owes g c =
