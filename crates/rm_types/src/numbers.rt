@@ -6,6 +6,12 @@ pub const MAX_SLOT: u16 = 1019;
 /// The most pages that a file has.
 pub const MAX_PAGES: u32 = 16_384;
 
+/// The most blocks that a file's inventory has: a block describes 1,024 pages.
+pub const MAX_BLOCKS: u32 = 16;
+
+/// The greatest category that the inventory has for a page.
+pub const MAX_CATEGORY: u8 = 3;
+
 /// The greatest offset in the log at which a record may end.
 pub const MAX_LOG: u64 = 1 << 48;
 
