@@ -21,7 +21,7 @@ use Rattle.rm_engine.specs.At.{IsAt}
 untouched : (before : History) (lsn : Lsn) (what : LogRecord) (pages page : ℕ) → IsBelow pages what → pages ≤ page → page_of before page ≡ [] → page_of (record { lsn = lsn; what = what } ∷ before) page ≡ []
 untouched before lsn (Insert txn under rid need row) pages page below past none =
     ap (λ (on : Bool). cond on (set_slot (page_of before page) rid.slot (Row row)) (page_of before page)) (ne_eqb rid.page page (λ same. omega arith)) ∙ none
-untouched before lsn (Commit txn) pages page below past none = none
+untouched before lsn other pages page below past none = none
 
 -- a page past the file has no slots
 beyond : (history : History) (pages page : ℕ) → AreBelow pages history → pages ≤ page → page_of history page ≡ []

@@ -27,6 +27,7 @@ finished_after : (before : History) (lsn : Lsn) (what : LogRecord) (id : ℕ) �
 finished_after before lsn (Insert txn under rid need row) id least finished = omega (arith, least finished)
 finished_after before lsn (Commit txn) id least (inl now) = omega (arith, now)
 finished_after before lsn (Commit txn) id least (inr earlier) = omega (arith, least earlier)
+finished_after before lsn other id least finished = omega (arith, least finished)
 
 pub finished_greatest : (history : History) (id : ℕ) → IsFinished history id → id ≤ greatest_id history
 finished_greatest [] id finished = absurd finished

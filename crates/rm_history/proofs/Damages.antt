@@ -9,7 +9,7 @@ use Rattle.rm_outside.specs.Images.{Bytes, Shows}
 use Rattle.rm_outside.proofs.ShowsLemmas.{shows_front, shows_back, shows_once}
 use Rattle.rm_record.specs.declared.records.LogRecord.{LogRecord}
 use Rattle.rm_record.specs.Records.{spelling, spelling_all, IsRecord}
-use Rattle.rm_record.proofs.RecordLaws.{spellings_are_apart}
+use Rattle.rm_record.proofs.Decoding.{spellings_are_apart}
 use Rattle.rm_history.specs.Logs.{Batch, gate_of, body_of, IsInRange, IsBatch, Stands, HasLog, HasWrongLength, HasWrongRecord, IsDamagedAt}
 use Rattle.rm_history.proofs.Readings.{last_of, stands_front, overlap, none_behind}
 

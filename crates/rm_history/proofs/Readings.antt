@@ -9,12 +9,12 @@ use Rattle.rm_outside.proofs.ShowsLemmas.{shows_front, shows_back, shows_once}
 use Rattle.rm_record.specs.declared.records.LogRecord.{LogRecord}
 use Rattle.rm_record.specs.declared.records.LogRecord.TheVariants.{Insert, Commit}
 use Rattle.rm_record.specs.Records.{spelling, spelling_all, IsRecord}
-use Rattle.rm_record.proofs.RecordLaws.{spellings_are_apart}
+use Rattle.rm_record.proofs.Decoding.{spellings_are_apart}
 use Rattle.rm_history.specs.Logs.{Batch, gate_of, body_of, IsBatch, Stands, HasLog}
 
 pub spelling_long : (next : LogRecord) → 0 < length (spelling next)
 spelling_long (Insert txn under rid need row) = omega arith
-spelling_long (Commit txn) = omega arith
+spelling_long other = omega arith
 
 pub records_once : (records others : List LogRecord) → AllByRecursion IsRecord records → AllByRecursion IsRecord others → spelling_all records ≡ spelling_all others → records ≡ others
 records_once [] [] are others_are same = refl

@@ -88,6 +88,7 @@ hold_after before id lsn (Insert txn under rid need row) may held =
     (sym (rows_in-insert before lsn txn under rid need row))
     (hold_after_insert (eqb txn.0 id) lsn (rows_in before) rid row (pending before id) may.vacant held)
 hold_after before id lsn (Commit txn) may held = hold_after_commit (eqb txn.0 id) (rows_in before) (pending before id) held
+hold_after before id lsn other may held = held
 
 -- the pages of a legal history hold what is pending
 pub pages_hold : (history : History) → IsLegal history → (id : ℕ) → Hold (rows_in history) (pending history id)
@@ -143,6 +144,7 @@ settled_after before lsn (Commit txn) place legal settled free =
       ]) ∙ sym found.1
       | inr found ↦ sym found
     ]
+settled_after before lsn other place legal settled free = settled free
 
 -- where nothing is pending a page of a legal history holds the rows of the log
 pub settled_place : (history : History) → IsLegal history → (place : Rid) → IsFree history place → rows_in history place ≡ rows_of_log history place
@@ -169,7 +171,7 @@ changed_after before lsn (Insert txn under rid need row) id place there (inl now
     (slot_made_now (eqb rid.page rid.page) (page_of before rid.page) rid.slot row (eq-eqb rid.page rid.page refl))
 changed_after before lsn (Insert txn under rid need row) id place there (inr earlier) =
     slot_made (eqb rid.page place.page) (page_of before place.page) rid.slot place.slot row (there earlier)
-changed_after before lsn (Commit txn) id place there had = there had
+changed_after before lsn other id place there had = there had
 
 pub changed_slot : (history : History) (id : ℕ) (place : Rid) → HasChange history id place → place.slot < length (page_of history place.page)
 changed_slot [] id place had = absurd had

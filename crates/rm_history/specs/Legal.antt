@@ -7,7 +7,7 @@ use Rattle.rm_types.specs.declared.numbers.TxnId.{TxnId}
 use Rattle.rm_types.specs.declared.slots.TheConstants.{CAPACITY}
 use Rattle.rm_model.specs.Pages.{used, row_at}
 use Rattle.rm_record.specs.declared.records.LogRecord.{LogRecord}
-use Rattle.rm_record.specs.declared.records.LogRecord.TheVariants.{Insert, Commit}
+use Rattle.rm_record.specs.declared.records.LogRecord.TheVariants.{Insert, Delete, Update, Compensate, Inventory, Commit, End, Checkpoint}
 use Rattle.rm_history.specs.declared.TheConstants.{UNDO_BYTES, END_BYTES}
 use Rattle.rm_history.specs.Histories.{History, Change, page_of, pending, last_of, greatest_id, IsFinished, HasChange}
 
@@ -23,10 +23,16 @@ pub record MayInsert (before : History) (txn : TxnId) (under : Lsn) (rid : Rid) 
   -- an insert frees no bytes, so none are reserved for the transaction
   pub need_is : need ≡ 0
 
--- the record may come now
+-- the record may come now: only inserts and commits do yet
 abbrev pub MayCome : History → LogRecord → Type 0
 MayCome before (Insert txn under rid need row) = MayInsert before txn under rid need
+MayCome before (Delete txn under rid need old) = ⊥
+MayCome before (Update txn under rid need old new) = ⊥
+MayCome before (Compensate txn undone next rid back) = ⊥
+MayCome before (Inventory txn page category) = ⊥
 MayCome before (Commit txn) = IsFinished before txn.0 → ⊥
+MayCome before (End txn) = ⊥
+MayCome before (Checkpoint next losers pages blocks) = ⊥
 
 -- no page uses more bytes than it has
 abbrev pub Fits : History → Type 0
@@ -37,10 +43,16 @@ abbrev pub IsLegal : History → Type 0
 IsLegal [] = Unit {0}
 IsLegal (newest ∷ before) = IsLegal before × MayCome before newest.what × Fits (newest ∷ before)
 
--- a record that names a page names one of so many
+-- a record that names a page names one of so many; a kind that no log has yet names none
 abbrev pub IsBelow : ℕ → LogRecord → Type 0
 IsBelow pages (Insert txn under rid need row) = rid.page < pages
+IsBelow pages (Delete txn under rid need old) = ⊥
+IsBelow pages (Update txn under rid need old new) = ⊥
+IsBelow pages (Compensate txn undone next rid back) = ⊥
+IsBelow pages (Inventory txn page category) = ⊥
 IsBelow pages (Commit txn) = Unit {0}
+IsBelow pages (End txn) = ⊥
+IsBelow pages (Checkpoint next losers dirty blocks) = ⊥
 
 abbrev pub AreBelow : ℕ → History → Type 0
 AreBelow pages history = AllByRecursion (λ logged. IsBelow pages logged.what) history

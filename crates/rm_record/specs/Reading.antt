@@ -1,103 +1,82 @@
--- Reading from left to right: a field is a value and the bytes after it, or none.
-use Rattle.std.specs.Prelude.{◌≡◌, ℕ, ◌-◌, List, [], ◌∷◌, length, take, drop, Bool, Option, Some, None, Result, Ok, Err, nat_lt, nat_le, ◌==◌, if◌then◌else◌}
-use Rattle.std.specs.Int.{Width, w16, w32, w64, byte_len, from_be_bytes}
+-- Reading a record: its kind, and then its fields.
+use Rattle.std.specs.Prelude.{ℕ, ◌-◌, ◌^◌, List, [], ◌∷◌, None, ◌==◌, if◌then◌else◌}
 use Rattle.rm_types.specs.declared.numbers.TxnId.{TxnId}
 use Rattle.rm_types.specs.declared.numbers.Lsn.{Lsn}
 use Rattle.rm_types.specs.declared.numbers.Rid.{Rid}
-use Rattle.rm_types.specs.declared.numbers.TheConstants.{MAX_PAGES, MAX_SLOT}
-use Rattle.rm_types.specs.declared.slots.TheConstants.{CAPACITY}
-use Rattle.rm_types.specs.declared.rows.TheConstants.{MAX_ROW}
+use Rattle.rm_types.specs.declared.numbers.TheConstants.{MAX_PAGES, MAX_BLOCKS}
+use Rattle.rm_types.specs.declared.places.Place.{Place}
+use Rattle.rm_types.specs.declared.slots.Slot.{Slot}
+use Rattle.rm_record.specs.declared.fields.Change.{Change}
 use Rattle.rm_record.specs.declared.records.LogRecord.{LogRecord}
 use Rattle.rm_record.specs.declared.records.LogRecord.TheVariants as log
-use Rattle.rm_record.specs.declared.refused.DecodeRefused.{DecodeRefused}
-use Rattle.rm_record.specs.declared.refused.DecodeRefused.TheVariants as refused
+use Rattle.rm_record.specs.Fields.{Reads, made, both, txn_field, lsn_field, page_field, rid_field, change_field, row_field, slot_field, category_field, next_field, places_field}
 
--- a refusal says that nothing is read, but for want of memory
-abbrev pub Refuses : {Y : Type 0} → DecodeRefused → Option Y → Type 0
-Refuses refused.Bad read = read ≡ None
-Refuses refused.NoMemory read = Unit {0}
-
--- what a function returned, seen by view, is what is read, unless memory ran out
-abbrev pub Gives : {X Y : Type 0} → (X → Y) → Result X DecodeRefused → Option Y → Type 0
-Gives view (Ok x) read = read ≡ Some (view x)
-Gives view (Err e) read = Refuses e read
-
--- ---- ways of reading, and what they are made of
-
-abbrev pub Reads : Type 0 → Type 0
-Reads A = List ℕ → Option (A × List ℕ)
-
-infixl 10 ◌>>=◌
-abbrev pub ◌>>=◌ : {A B : Type 0} → Option A → (A → Option B) → Option B
-(Some x) >>= f = f x
-None >>= f = None
-
--- only a value that passes
-abbrev pub kept : {A : Type 0} → (A → Bool) → Reads A → Reads A
-kept passes field bytes = do
-  x ← field bytes
-  if passes x.0 then Some x else None
-
--- a value made of what is read
-abbrev pub made : {A B : Type 0} → (A → B) → Reads A → Reads B
-made make field bytes = do
-  x ← field bytes
-  Some (make x.0, x.1)
-
--- one and then the other
-abbrev pub both : {A B : Type 0} → Reads A → Reads B → Reads (A × B)
-both first second bytes = do
-  x ← first bytes
-  y ← second x.1
-  Some ((x.0, y.0), y.1)
-
--- ---- fields
-
--- a number of so many bytes
-abbrev pub number_field : Width → Reads ℕ
-number_field w bytes = if nat_lt (length bytes) (byte_len w) then None else Some (from_be_bytes w (take (byte_len w) bytes), drop (byte_len w) bytes)
-
--- a number that is at most this
-abbrev pub number_up_to : Width → ℕ → Reads ℕ
-number_up_to w high bytes = kept (λ n. nat_le n high) (number_field w) bytes
-
--- a transaction's id
-unfoldable pub txn_field : Reads TxnId
-txn_field bytes = made (λ n. record { 0 = n }) (kept (λ n. nat_lt 0 n) (number_field w32)) bytes
-
--- an LSN
-unfoldable pub lsn_field : Reads Lsn
-lsn_field bytes = made (λ n. record { 0 = n }) (number_field w64) bytes
-
--- a row id
-unfoldable pub rid_field : Reads Rid
-rid_field bytes = made (λ n. record { page = n.0; slot = n.1 }) (both (number_up_to w32 (MAX_PAGES - 1)) (number_up_to w16 MAX_SLOT)) bytes
-
--- bytes reserved on a page
-unfoldable pub need_field : Reads ℕ
-need_field bytes = number_up_to w16 CAPACITY bytes
-
--- a row
-unfoldable pub row_field : Reads (List ℕ)
-row_field bytes = do
-  n ← number_up_to w16 MAX_ROW bytes
-  if nat_lt (length n.1) n.0 then None else Some (take n.0 n.1, drop n.0 n.1)
-
--- ---- records
-
--- the fields of an insert
-abbrev pub insert_parts : Reads (TxnId × (Lsn × (Rid × (ℕ × List ℕ))))
-insert_parts bytes = both txn_field (both lsn_field (both rid_field (both need_field row_field))) bytes
+-- a change and a row
+abbrev pub row_parts : Reads (Change × List ℕ)
+row_parts bytes = both change_field row_field bytes
 
 -- an insert behind its kind
 unfoldable pub insert_fields : Reads LogRecord
-insert_fields bytes = made (λ (txn, (under, (rid, (need, row)))). log.Insert txn under rid need row) insert_parts bytes
+insert_fields bytes = made (λ (change, row). log.Insert change.txn change.under change.rid change.need row) row_parts bytes
+
+-- a delete behind its kind
+unfoldable pub delete_fields : Reads LogRecord
+delete_fields bytes = made (λ (change, row). log.Delete change.txn change.under change.rid change.need row) row_parts bytes
+
+-- a change and two rows
+abbrev pub update_parts : Reads (Change × (List ℕ × List ℕ))
+update_parts bytes = both change_field (both row_field row_field) bytes
+
+-- an update behind its kind
+unfoldable pub update_fields : Reads LogRecord
+update_fields bytes = made (λ (change, (before, after)). log.Update change.txn change.under change.rid change.need before after) update_parts bytes
+
+-- the fields of a compensation
+abbrev pub compensate_parts : Reads (TxnId × (Lsn × (Lsn × (Rid × Slot))))
+compensate_parts bytes = both txn_field (both lsn_field (both lsn_field (both rid_field slot_field))) bytes
+
+-- a compensation behind its kind
+unfoldable pub compensate_fields : Reads LogRecord
+compensate_fields bytes = made (λ (txn, (undone, (next, (rid, back)))). log.Compensate txn undone next rid back) compensate_parts bytes
+
+-- the fields of an inventory record
+abbrev pub inventory_parts : Reads (TxnId × (ℕ × ℕ))
+inventory_parts bytes = both txn_field (both page_field category_field) bytes
+
+-- an inventory record behind its kind
+unfoldable pub inventory_fields : Reads LogRecord
+inventory_fields bytes = made (λ (txn, (page, category)). log.Inventory txn page category) inventory_parts bytes
 
 -- a commit behind its kind
 unfoldable pub commit_fields : Reads LogRecord
 commit_fields bytes = made (λ txn. log.Commit txn) txn_field bytes
 
+-- an end behind its kind
+unfoldable pub end_fields : Reads LogRecord
+end_fields bytes = made (λ txn. log.End txn) txn_field bytes
+
+-- the fields of a checkpoint
+abbrev pub checkpoint_parts : Reads (ℕ × (List Place × (List Place × List Place)))
+checkpoint_parts bytes = both next_field (both (places_field 1 (2 ^ 32 - 1)) (both (places_field 0 (MAX_PAGES - 1)) (places_field 0 (MAX_BLOCKS - 1)))) bytes
+
+-- a checkpoint behind its kind
+unfoldable pub checkpoint_fields : Reads LogRecord
+checkpoint_fields bytes = made (λ (next, (losers, (pages, blocks))). log.Checkpoint next losers pages blocks) checkpoint_parts bytes
+
+-- the fields of a record of this kind
+unfoldable pub fields_of : ℕ → Reads LogRecord
+fields_of kind rest =
+    if kind == 1 then insert_fields rest
+    else if kind == 2 then delete_fields rest
+    else if kind == 3 then update_fields rest
+    else if kind == 4 then compensate_fields rest
+    else if kind == 5 then inventory_fields rest
+    else if kind == 6 then commit_fields rest
+    else if kind == 7 then end_fields rest
+    else if kind == 8 then checkpoint_fields rest
+    else None
+
 -- a record
-unfoldable pub record_field : Reads LogRecord
+abbrev pub record_field : Reads LogRecord
 record_field [] = None
-record_field (kind ∷ rest) = if kind == 1 then insert_fields rest else if kind == 6 then commit_fields rest else None
+record_field (kind ∷ rest) = fields_of kind rest

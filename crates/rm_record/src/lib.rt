@@ -4,6 +4,8 @@
 //! read back as they were written. A record's numbers are in their ranges: bytes that break one are no record.
 #![tactic(auto)]
 
+mod appending;
+mod checkpoints;
 mod fields;
 mod laws;
 mod reading;

@@ -2,13 +2,19 @@
 
 ghost use Rattle.std.specs.Prelude.{◌≡◌, ℕ, ◌≤◌, List, ◌++◌, length, take, drop, IfOk, Err};
 ghost use Rattle.rm_record.specs.declared.records.LogRecord.{LogRecord as AnyRecord};
+ghost use Rattle.rm_record.specs.Fields.{Gives};
 ghost use Rattle.rm_record.specs.Records.{IsRecord, spelling};
-ghost use Rattle.rm_record.specs.Reading.{Gives, insert_fields, commit_fields, record_field};
+ghost use Rattle.rm_record.specs.Reading.{insert_fields, delete_fields, update_fields, compensate_fields, inventory_fields, commit_fields, end_fields, checkpoint_fields, fields_of, record_field};
 
-use crate::fields::{lsn_of, need_of, rid_of, row_of, txn_of};
-use crate::records::{COMMIT, INSERT, LogRecord};
+use crate::checkpoints::{next_of, places_of};
+use crate::fields::{
+    Change, category_of, change_of, lsn_of, page_of, rid_of, row_of, slot_of, txn_of,
+};
+use crate::records::{
+    CHECKPOINT, COMMIT, COMPENSATE, DELETE, END, INSERT, INVENTORY, LogRecord, UPDATE,
+};
 use crate::refused::DecodeRefused;
-use rm_types::Row;
+use rm_types::{MAX_BLOCKS, MAX_PAGES};
 use std::alloc::Global;
 
 /// An insert behind its kind byte, and the bytes behind it.
@@ -16,12 +22,8 @@ use std::alloc::Global;
 fn insert_of(alloc: Global, bytes: &[u8]) -> Result<(LogRecord, &[u8]), DecodeRefused>
     ensures { Gives (λ x. (x.0, x.1.now)) result (insert_fields bytes.now) }
 {
-    let (txn, rest) = txn_of(bytes)?;
-    let (under, rest) = lsn_of(rest)?;
-    let (rid, rest) = rid_of(rest)?;
-    let (need, rest) = need_of(rest)?;
-    let (row, rest) = row_of(rest)?;
-    let row = Row::from_slice(alloc, row)?;
+    let (Change { txn, under, rid, need }, rest) = change_of(bytes)?;
+    let (row, rest) = row_of(alloc, rest)?;
     let insert = LogRecord::Insert {
         txn,
         under,
@@ -30,6 +32,78 @@ fn insert_of(alloc: Global, bytes: &[u8]) -> Result<(LogRecord, &[u8]), DecodeRe
         row,
     };
     Ok((insert, rest))
+}
+
+/// A delete behind its kind byte, and the bytes behind it.
+#[tactic(auto, unfolding(crate::specs::Reading::delete_fields))]
+fn delete_of(alloc: Global, bytes: &[u8]) -> Result<(LogRecord, &[u8]), DecodeRefused>
+    ensures { Gives (λ x. (x.0, x.1.now)) result (delete_fields bytes.now) }
+{
+    let (Change { txn, under, rid, need }, rest) = change_of(bytes)?;
+    let (old, rest) = row_of(alloc, rest)?;
+    let delete = LogRecord::Delete {
+        txn,
+        under,
+        rid,
+        need,
+        old,
+    };
+    Ok((delete, rest))
+}
+
+/// An update behind its kind byte, and the bytes behind it.
+#[tactic(auto, unfolding(crate::specs::Reading::update_fields))]
+fn update_of(alloc: Global, bytes: &[u8]) -> Result<(LogRecord, &[u8]), DecodeRefused>
+    ensures { Gives (λ x. (x.0, x.1.now)) result (update_fields bytes.now) }
+{
+    let (Change { txn, under, rid, need }, rest) = change_of(bytes)?;
+    let (old, rest) = row_of(alloc, rest)?;
+    let (new, rest) = row_of(alloc, rest)?;
+    let update = LogRecord::Update {
+        txn,
+        under,
+        rid,
+        need,
+        old,
+        new,
+    };
+    Ok((update, rest))
+}
+
+/// A compensation behind its kind byte, and the bytes behind it.
+#[tactic(auto, unfolding(crate::specs::Reading::compensate_fields))]
+fn compensate_of(alloc: Global, bytes: &[u8]) -> Result<(LogRecord, &[u8]), DecodeRefused>
+    ensures { Gives (λ x. (x.0, x.1.now)) result (compensate_fields bytes.now) }
+{
+    let (txn, rest) = txn_of(bytes)?;
+    let (undone, rest) = lsn_of(rest)?;
+    let (next, rest) = lsn_of(rest)?;
+    let (rid, rest) = rid_of(rest)?;
+    let (back, rest) = slot_of(alloc, rest)?;
+    let compensation = LogRecord::Compensate {
+        txn,
+        undone,
+        next,
+        rid,
+        back,
+    };
+    Ok((compensation, rest))
+}
+
+/// An inventory record behind its kind byte, and the bytes behind it.
+#[tactic(auto, unfolding(crate::specs::Reading::inventory_fields))]
+fn inventory_of(bytes: &[u8]) -> Result<(LogRecord, &[u8]), DecodeRefused>
+    ensures { Gives (λ x. (x.0, x.1.now)) result (inventory_fields bytes.now) }
+{
+    let (txn, rest) = txn_of(bytes)?;
+    let (page, rest) = page_of(rest)?;
+    let (category, rest) = category_of(rest)?;
+    let inventory = LogRecord::Inventory {
+        txn,
+        page,
+        category,
+    };
+    Ok((inventory, rest))
 }
 
 /// A commit behind its kind byte, and the bytes behind it.
@@ -41,26 +115,69 @@ fn commit_of(bytes: &[u8]) -> Result<(LogRecord, &[u8]), DecodeRefused>
     Ok((LogRecord::Commit { txn }, rest))
 }
 
+/// An end behind its kind byte, and the bytes behind it.
+#[tactic(auto, unfolding(crate::specs::Reading::end_fields))]
+fn end_of(bytes: &[u8]) -> Result<(LogRecord, &[u8]), DecodeRefused>
+    ensures { Gives (λ x. (x.0, x.1.now)) result (end_fields bytes.now) }
+{
+    let (txn, rest) = txn_of(bytes)?;
+    Ok((LogRecord::End { txn }, rest))
+}
+
+/// A checkpoint behind its kind byte, and the bytes behind it.
+#[tactic(auto, unfolding(crate::specs::Reading::checkpoint_fields))]
+fn checkpoint_of(alloc: Global, bytes: &[u8]) -> Result<(LogRecord, &[u8]), DecodeRefused>
+    ensures { Gives (λ x. (x.0, x.1.now)) result (checkpoint_fields bytes.now) }
+{
+    let (next, rest) = next_of(bytes)?;
+    let (losers, rest) = places_of(alloc, rest, 1, u32::MAX)?;
+    let (pages, rest) = places_of(alloc, rest, 0, MAX_PAGES - 1)?;
+    let (blocks, rest) = places_of(alloc, rest, 0, MAX_BLOCKS - 1)?;
+    let checkpoint = LogRecord::Checkpoint {
+        next,
+        losers,
+        pages,
+        blocks,
+    };
+    Ok((checkpoint, rest))
+}
+
+/// A record of this kind behind its kind byte, and the bytes behind it.
+#[tactic(auto, unfolding(crate::specs::Reading::fields_of))]
+fn fields_of(alloc: Global, kind: u8, bytes: &[u8]) -> Result<(LogRecord, &[u8]), DecodeRefused>
+    ensures { Gives (λ x. (x.0, x.1.now)) result (fields_of kind bytes.now) }
+{
+    match kind {
+        INSERT => insert_of(alloc, bytes),
+        DELETE => delete_of(alloc, bytes),
+        UPDATE => update_of(alloc, bytes),
+        COMPENSATE => compensate_of(alloc, bytes),
+        INVENTORY => inventory_of(bytes),
+        COMMIT => commit_of(bytes),
+        END => end_of(bytes),
+        CHECKPOINT => checkpoint_of(alloc, bytes),
+        _ => Err(DecodeRefused::Bad),
+    }
+}
+
 /// A record, and the bytes behind it.
-#[tactic(auto, unfolding(crate::specs::Reading::record_field))]
 fn record_of(alloc: Global, bytes: &[u8]) -> Result<(LogRecord, &[u8]), DecodeRefused>
     ensures { Gives (λ x. (x.0, x.1.now)) result (record_field bytes.now) }
 {
     match bytes {
-        [INSERT, rest @ ..] => insert_of(alloc, rest),
-        [COMMIT, rest @ ..] => commit_of(rest),
-        _ => Err(DecodeRefused::Bad),
+        [kind, rest @ ..] => fields_of(alloc, *kind, rest),
+        [] => Err(DecodeRefused::Bad),
     }
 }
 
 impl LogRecord {
     /// The record whose spelling is a front of the bytes, and the length of that spelling. Bytes may follow it.
-    /// Memory is taken for the row alone.
+    /// Memory is taken for its rows and lists alone.
     ///
     /// # Errors
     ///
     /// [`DecodeRefused::Bad`]: no front of the bytes is the spelling of a record. [`DecodeRefused::NoMemory`]: there was
-    /// none for the row.
+    /// none for its rows and lists.
     pub fn decode(alloc: Global, bytes: &[u8]) -> Result<(LogRecord, usize), DecodeRefused>
         ensures found { IfOk result (λ found. IsRecord found.0 × (found.1 ≡ length (spelling found.0)) × (bytes.now ≡ spelling found.0 ++ drop found.1 bytes.now)) }
         ensures front { IfOk result (λ found. (found.1 ≤ length bytes.now) × (take found.1 bytes.now ≡ spelling found.0)) }

@@ -14,7 +14,7 @@ use Rattle.rm_restart.specs.Refusals.{IfMisfit}
 
 inserts_after_few : (what : LogRecord) (count bound : ℕ) → count ≤ bound → inserts_after what count ≤ bound + 1
 inserts_after_few (Insert txn under rid need row) count bound le = omega arith
-inserts_after_few (Commit txn) count bound le = omega arith
+inserts_after_few other count bound le = omega arith
 
 -- a history has no more inserts than records
 pub inserts_few : (history : History) → inserts history ≤ length history

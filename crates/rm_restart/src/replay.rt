@@ -19,7 +19,8 @@ use std::collections::BTreeSet;
 // Why a record was not replayed.
 #[derive(Clone, Copy, Debug, PartialEq, Eq)]
 pub enum ReplayRefused {
-    // The record with this LSN names no page of the file, or its page has no room for its row.
+    // The record with this LSN names no page of the file, or its page has no room for its row, or it is of a kind that
+    // no log has yet.
     Misfit { at: Lsn },
     NoMemory,
 }
@@ -134,6 +135,12 @@ impl Replay {
                 self.commit(*txn);
                 Ok(())
             }
+            LogRecord::Delete { .. }
+            | LogRecord::Update { .. }
+            | LogRecord::Compensate { .. }
+            | LogRecord::Inventory { .. }
+            | LogRecord::End { .. }
+            | LogRecord::Checkpoint { .. } => Err(ReplayRefused::Misfit { at: logged.lsn }),
         }
     }
 }

@@ -1,6 +1,6 @@
 //! Places in the log, by number.
 
-ghost use Rattle.std.specs.Prelude.{◌≡◌, ◌≤◌, [], ◌∷◌, ◌++◌, length, IsTrue, ◌↔◌, OnOk, OnErr};
+ghost use Rattle.std.specs.Prelude.{◌≡◌, ◌+◌, ◌≤◌, [], ◌∷◌, ◌++◌, length, IsTrue, ◌↔◌, OnOk, OnErr};
 ghost use Rattle.rm_types.specs.Rising.{RiseFrom, next_number, MayFollow};
 
 use crate::memory::NoMemory;
@@ -80,6 +80,7 @@ impl Places {
     pub fn push(&mut self, place: Place) -> Result<(), NoMemory>
         requires { MayFollow self.old place.number }
         ensures ok { OnOk result (self.new ≡ self.old ++ place ∷ []) }
+        ensures next { OnOk result (next_number 0 self.new ≡ place.number + 1) }
         ensures err { OnErr result (self.new ≡ self.old) }
     {
         self.entries.push(place)?;

@@ -3,17 +3,12 @@ use Rattle.std.proofs.Common.{◌≡◌, ℕ, ◌≤◌, List, ◌++◌, length,
 use Rattle.rm_outside.specs.Images.{Bytes, Shows}
 use Rattle.rm_outside.proofs.ShowsLemmas.{shows_front}
 use Rattle.rm_record.specs.declared.records.LogRecord.{LogRecord}
-use Rattle.rm_record.specs.declared.records.LogRecord.TheVariants.{Insert, Commit}
 use Rattle.rm_record.specs.declared.records.TheConstants.{MAX_RECORD}
 use Rattle.rm_record.specs.Records.{spelling, IsRecord}
+use Rattle.rm_record.proofs.SizeLaws.{spellings_are_short}
 use Rattle.rm_wal.specs.Batches.{BeginsWithNone}
 use Rattle.rm_wal.specs.Lookups.{HasNoneAt}
 use Rattle.rm_wal.proofs.BatchSteps.{none_stands}
-
--- the longest record
-record_short : (what : LogRecord) → IsRecord what → length (spelling what) ≤ MAX_RECORD
-record_short (Insert txn under rid need row) is = omega (arith, is.short)
-record_short (Commit txn) is = omega arith
 
 -- the record that the bytes begin with
 pub is_found : {area : Bytes} {at : ℕ} {bytes read : List ℕ} (what : LogRecord) (rest : List ℕ) → bytes ≡ read → Shows area at read → bytes ≡ spelling what ++ rest → Shows area at (spelling what)
@@ -22,5 +17,5 @@ is_found {area} {at} what rest same shown cut = shows_front (spelling what) rest
 -- or none
 pub none_there : {area : Bytes} {at : ℕ} {bytes read : List ℕ} → bytes ≡ read → Shows area at read → length bytes ≡ MAX_RECORD → BeginsWithNone bytes → HasNoneAt area at
 none_there {area} {at} {bytes} same shown long none = record {
-  each = λ next is stands. none_stands bytes (subst (Shows area at) (sym same) shown) none next is (omega (arith, long, record_short next is)) stands;
+  each = λ next is stands. none_stands bytes (subst (Shows area at) (sym same) shown) none next is (omega (arith, long, (spellings_are_short next is).1)) stands;
 }

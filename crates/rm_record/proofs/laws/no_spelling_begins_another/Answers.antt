@@ -1,4 +1,4 @@
-use Rattle.rm_record.proofs.RecordLaws.{spellings_are_apart}
+use Rattle.rm_record.proofs.Decoding.{spellings_are_apart}
 use Rattle.rm_record.proofs.laws.no_spelling_begins_another.Goals as goal
 
 pub returns : goal.returns

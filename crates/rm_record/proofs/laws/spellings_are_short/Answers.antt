@@ -1,4 +1,4 @@
-use Rattle.rm_record.proofs.RecordLaws.{spellings_are_short}
+use Rattle.rm_record.proofs.SizeLaws.{spellings_are_short}
 use Rattle.rm_record.proofs.laws.spellings_are_short.Goals as goal
 
 pub returns : goal.returns

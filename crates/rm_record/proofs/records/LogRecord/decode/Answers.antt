@@ -1,5 +1,5 @@
 use Rattle.std.proofs.Common.{arith}
-use Rattle.rm_record.proofs.RecordLaws.{rest_within, found_is, front_is, bad_is}
+use Rattle.rm_record.proofs.Decoding.{rest_within, found_is, front_is, bad_is}
 use Rattle.rm_record.proofs.records.LogRecord.decode.Goals as goal
 
 pub overflow_sub-result : goal.overflow_sub-result
