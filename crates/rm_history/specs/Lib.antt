@@ -2,3 +2,11 @@ pub mod Logs
 pub mod Histories
 pub mod Legal
 pub mod Laws
+pub mod Acts
+pub mod Contents
+pub mod Pending
+pub mod Needs
+pub mod Rules
+pub mod Undoing
+pub mod Literal
+pub mod Meaning

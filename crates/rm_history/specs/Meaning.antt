@@ -1,0 +1,95 @@
+-- What holds of all histories that are in order, and of all that are legal.
+use Rattle.std.specs.Prelude.{◌≡◌, ℕ, ◌+◌, List, [], ◌∷◌, ◌++◌, reverse, ◌⊎◌}
+use Rattle.rm_types.specs.declared.numbers.Rid.{Rid}
+use Rattle.rm_model.specs.Pages.{row_at}
+use Rattle.rm_history.specs.Acts.{Act, Change, History}
+use Rattle.rm_history.specs.Contents.{page_of, category_of, entry_of}
+use Rattle.rm_history.specs.Pending.{pending_of, all_pending, last_of, applied, rows_of_log, IsFinished, HasRecord}
+use Rattle.rm_history.specs.Needs.{on_page, need_for}
+use Rattle.rm_history.specs.Rules.{IsInOrder, IsLegal}
+use Rattle.rm_history.specs.Undoing.{Undone, RolledBack, Restarted, with_undo, undo_bytes, bytes_of, compensate_record, undo_for}
+use Rattle.rm_history.specs.Literal.{net, rows_of_acts, IsNeed}
+
+-- each change names the next one as the pending record below it, and the oldest names none
+abbrev pub AreChained : List Change → Type 0
+AreChained [] = Unit {0}
+AreChained (newest ∷ before) = (newest.under ≡ last_of before) × AreChained before
+
+-- one of them is on the row id
+abbrev pub IsChanged : List Change → Rid → Type 0
+IsChanged [] rid = ⊥
+IsChanged (newest ∷ before) rid = (newest.rid ≡ rid) ⊎ IsChanged before rid
+
+-- what stands before the newest records is in order, and legal where they are
+abbrev pub FrontsAreInOrder : Type 0
+FrontsAreInOrder = (newest before : History) → IsInOrder (newest ++ before) → IsInOrder before
+
+abbrev pub LegalFronts : Type 0
+LegalFronts = (newest before : History) → IsLegal (newest ++ before) → IsLegal before
+
+abbrev pub LegalIsInOrder : Type 0
+LegalIsInOrder = (history : History) → IsLegal history → IsInOrder history
+
+-- The pending changes of a transaction are a chain, and those on one row id are of one transaction.
+abbrev pub PendingIsChained : Type 0
+PendingIsChained = (history : History) → IsInOrder history → (txn : ℕ) → AreChained (pending_of history txn)
+
+abbrev pub PendingIsOfOne : Type 0
+PendingIsOfOne = (history : History) → IsInOrder history → (rid : Rid) (txn other : ℕ)
+    → IsChanged (pending_of history txn) rid → IsChanged (pending_of history other) rid → txn ≡ other
+
+-- what a page holds at a row id is what its pending changes left on the committed row, or that row
+abbrev pub PagesHoldWhatIsPending : Type 0
+PagesHoldWhatIsPending = (history : History) → IsInOrder history → (rid : Rid) (txn : ℕ) → IsChanged (pending_of history txn) rid
+    → row_at (page_of history rid.page) rid.slot ≡ applied (rows_of_log history) (pending_of history txn) rid
+
+abbrev pub PagesHoldWhatIsCommitted : Type 0
+PagesHoldWhatIsCommitted = (history : History) → IsInOrder history → (rid : Rid) → ((txn : ℕ) → IsChanged (pending_of history txn) rid → ⊥)
+    → row_at (page_of history rid.page) rid.slot ≡ rows_of_log history rid
+
+-- Undoing a transaction's last pending change gives a legal history: its page always has the room.
+pub record IsUndone (before : History) (txn : ℕ) (rest : List Change) (new : History) : Type 0 where
+  pub legal : IsLegal new
+  pub pending : pending_of new txn ≡ rest
+  pub others : (other : ℕ) → (other ≡ txn → ⊥) → pending_of new other ≡ pending_of before other
+  pub unfinished : IsFinished new txn → ⊥
+  pub rows : rows_of_log new ≡ rows_of_log before
+
+abbrev pub NoUndoLacksRoom : Type 0
+NoUndoLacksRoom = (before new : History) (txn : ℕ) (last : Change) (rest : List Change) → IsLegal before → (IsFinished before txn → ⊥)
+    → pending_of before txn ≡ last ∷ rest → Undone before last new → IsUndone before txn rest new
+
+-- So does a whole rollback,
+abbrev pub RollbacksAreLegal : Type 0
+RollbacksAreLegal = (before new : History) (txn : ℕ) → IsLegal before → (IsFinished before txn → ⊥) → RolledBack before txn new
+    → IsLegal new × IsFinished new txn × (rows_of_log new ≡ rows_of_log before)
+
+-- and all of restart's undo, behind which nothing is pending, each page holds the committed rows, and each entry is right.
+pub record IsRestarted (before new : History) : Type 0 where
+  pub legal : IsLegal new
+  pub none : (txn : ℕ) → pending_of new txn ≡ []
+  pub finished : (txn : ℕ) → HasRecord new txn → IsFinished new txn
+  pub rows : rows_of_log new ≡ rows_of_log before
+  pub settled : (rid : Rid) → row_at (page_of new rid.page) rid.slot ≡ rows_of_log before rid
+  pub entered : (page : ℕ) → entry_of new page ≡ category_of (page_of new page)
+
+abbrev pub RestartsAreLegal : Type 0
+RestartsAreLegal = (before new : History) → IsLegal before → Restarted before new → IsRestarted before new
+
+-- the undo of a history can be made
+abbrev pub RestartsAreThere : Type 0
+RestartsAreThere = (before : History) → (new : History) × Restarted before new
+
+-- The two ways of saying what is pending, which rows are committed, and what an undo needs are one.
+abbrev pub NetIsPending : Type 0
+NetIsPending = (history : History) → IsInOrder history → (txn : ℕ) → (IsFinished history txn → ⊥) → reverse (net (reverse history) txn) ≡ pending_of history txn
+
+abbrev pub RowsAreOfWinners : Type 0
+RowsAreOfWinners = (history : History) → IsInOrder history → (rid : Rid) → rows_of_acts (reverse history) rid ≡ rows_of_log history rid
+
+abbrev pub NeedIsTheMost : Type 0
+NeedIsTheMost = (changed : List Change) → IsNeed (reverse changed) (need_for changed)
+
+-- the bytes of the undo go down by those of each record that it appends
+abbrev pub UndoBytesGoDown : Type 0
+UndoBytesGoDown = (history : History) (last : Change) (rest : List Change) → IsInOrder history → all_pending history ≡ last ∷ rest → all_pending (with_undo history last) ≡ rest
