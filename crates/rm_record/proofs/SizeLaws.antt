@@ -1,7 +1,6 @@
 -- How long a record is.
-use Rattle.std.proofs.Common.{◌≡◌, ℕ, ◌+◌, ◌-◌, ◌*◌, ◌^◌, ◌≤◌, List, ◌++◌, length, refl, arith, length-append}
+use Rattle.std.proofs.Common.{◌≡◌, ℕ, ◌+◌, ◌-◌, ◌≤◌, List, ◌++◌, length, refl, arith, length-append}
 use Rattle.std.specs.Prelude.{slice_index}
-use Rattle.std.specs.Int.{w64, to_be_bytes}
 use Rattle.rm_types.specs.declared.numbers.TheConstants.{MAX_PAGES, MAX_BLOCKS}
 use Rattle.rm_types.specs.declared.places.Place.{Place}
 use Rattle.rm_types.specs.declared.rows.TheConstants.{MAX_ROW}
