@@ -1,13 +1,12 @@
 -- Places that are read are the places that were written, and what was written is read again.
-use Rattle.std.proofs.Common.{◌≡◌, ℕ, zero, suc, ◌+◌, ◌-◌, ◌*◌, ◌^◌, ◌<◌, ◌≤◌, List, [], ◌∷◌, ◌++◌, length, Option, Some, None, refl, sym, ap, subst, ◌∙◌, append_assoc, arith, length-append}
+use Rattle.std.proofs.Common.{◌≡◌, ℕ, zero, suc, ◌+◌, ◌*◌, ◌^◌, ◌<◌, ◌≤◌, List, [], ◌∷◌, ◌++◌, length, Option, Some, None, refl, sym, ap, subst, ◌∙◌, append_assoc, arith, length-append}
 use Rattle.std.specs.Int.{w16, w32, w64, to_be_bytes}
 use Rattle.std.specs.List.{flat_map}
 use Rattle.rm_types.specs.declared.places.Place.{Place}
-use Rattle.rm_types.specs.declared.places.TheConstants.{MAX_PLACES}
 use Rattle.rm_record.specs.Places.{place_bytes, places_bytes, AreBetween, ArePlaces}
 use Rattle.rm_record.specs.Records.{AreBytes}
 use Rattle.rm_record.specs.Fields.{◌>>=◌, number_field, place_field, entries_field, places_field}
-use Rattle.rm_record.proofs.FieldLaws.{bind_some, some_is, Takes, Takes-then, IsField, made_is, said_is, both_is, between_is, number_is, wide16, wide32, wide64}
+use Rattle.rm_record.proofs.FieldLaws.{bind_some, some_is, Takes, Takes-then, IsField, made_is, both_is, between_is, number_is, wide16, wide32, wide64}
 
 -- ---- one place
 

@@ -1,8 +1,7 @@
 -- A record that is read is the record that was written, and what was written is read again.
-use Rattle.std.proofs.Common.{◌≡◌, ℕ, suc, ◌+◌, ◌-◌, ◌*◌, ◌^◌, ◌<◌, ◌≤◌, List, [], ◌∷◌, ◌++◌, length, take, drop, eqb, cond, Option, Result, Err, Some, None, refl, sym, ap, subst, ◌∙◌, append_assoc, arith, inl, inr}
+use Rattle.std.proofs.Common.{◌≡◌, ℕ, suc, ◌-◌, ◌^◌, ◌<◌, ◌≤◌, List, [], ◌∷◌, ◌++◌, eqb, cond, Option, Some, None, refl, sym, subst, arith, inl, inr}
 use Rattle.std.specs.Int.{w32, w64, to_be_bytes}
 use Rattle.std.proofs.lemmas.Bool.{eqb-true}
-use Rattle.std.proofs.lemmas.List.{take_at, drop_at, length-append}
 use Rattle.rm_types.specs.declared.numbers.TxnId.{TxnId}
 use Rattle.rm_types.specs.declared.numbers.Lsn.{Lsn}
 use Rattle.rm_types.specs.declared.numbers.Rid.{Rid}
@@ -14,7 +13,7 @@ use Rattle.rm_record.specs.declared.records.LogRecord.{LogRecord}
 use Rattle.rm_record.specs.declared.records.LogRecord.TheVariants as log
 use Rattle.rm_record.specs.Places.{places_bytes, ArePlaces}
 use Rattle.rm_record.specs.Records.{AreBytes, IsTxn, IsRid, IsRow, IsSlot, IsChange, IsRecord, rid_bytes, row_bytes, slot_bytes, change_bytes, spelling}
-use Rattle.rm_record.specs.Fields.{Reads, made, txn_field}
+use Rattle.rm_record.specs.Fields.{Reads, made}
 use Rattle.rm_record.specs.Reading.{row_parts, insert_fields, delete_fields, update_parts, update_fields, compensate_parts, compensate_fields, inventory_parts, inventory_fields, commit_fields, end_fields, checkpoint_parts, checkpoint_fields, fields_of, record_field}
 use Rattle.rm_record.proofs.FieldLaws.{bind_some, some_is, Takes, Takes-behind, IsField, both_is, chosen, nothing, txn_is, lsn_is, page_is, rid_is, change_is, row_is, slot_is, category_is, next_is}
 use Rattle.rm_record.proofs.PlaceLaws.{places_are}

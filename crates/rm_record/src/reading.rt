@@ -22,7 +22,15 @@ use std::alloc::Global;
 fn insert_of(alloc: Global, bytes: &[u8]) -> Result<(LogRecord, &[u8]), DecodeRefused>
     ensures { Gives (λ x. (x.0, x.1.now)) result (insert_fields bytes.now) }
 {
-    let (Change { txn, under, rid, need }, rest) = change_of(bytes)?;
+    let (
+        Change {
+            txn,
+            under,
+            rid,
+            need,
+        },
+        rest,
+    ) = change_of(bytes)?;
     let (row, rest) = row_of(alloc, rest)?;
     let insert = LogRecord::Insert {
         txn,
@@ -39,7 +47,15 @@ fn insert_of(alloc: Global, bytes: &[u8]) -> Result<(LogRecord, &[u8]), DecodeRe
 fn delete_of(alloc: Global, bytes: &[u8]) -> Result<(LogRecord, &[u8]), DecodeRefused>
     ensures { Gives (λ x. (x.0, x.1.now)) result (delete_fields bytes.now) }
 {
-    let (Change { txn, under, rid, need }, rest) = change_of(bytes)?;
+    let (
+        Change {
+            txn,
+            under,
+            rid,
+            need,
+        },
+        rest,
+    ) = change_of(bytes)?;
     let (old, rest) = row_of(alloc, rest)?;
     let delete = LogRecord::Delete {
         txn,
@@ -56,7 +72,15 @@ fn delete_of(alloc: Global, bytes: &[u8]) -> Result<(LogRecord, &[u8]), DecodeRe
 fn update_of(alloc: Global, bytes: &[u8]) -> Result<(LogRecord, &[u8]), DecodeRefused>
     ensures { Gives (λ x. (x.0, x.1.now)) result (update_fields bytes.now) }
 {
-    let (Change { txn, under, rid, need }, rest) = change_of(bytes)?;
+    let (
+        Change {
+            txn,
+            under,
+            rid,
+            need,
+        },
+        rest,
+    ) = change_of(bytes)?;
     let (old, rest) = row_of(alloc, rest)?;
     let (new, rest) = row_of(alloc, rest)?;
     let update = LogRecord::Update {

@@ -1,11 +1,13 @@
 //! The records of the log, and their sizes.
 
-ghost use Rattle.std.specs.Prelude.{◌≡◌, ◌≤◌, length};
-ghost use Rattle.rm_types.specs.declared.slots.Slot.{Slot as AnySlot};
+ghost use Rattle.std.specs.Prelude.{◌≡◌, ◌+◌, ◌*◌, ◌≤◌, length, slice_index};
+ghost use Rattle.rm_types.specs.declared.places.TheConstants.{MAX_PLACES};
+ghost use Rattle.rm_types.specs.declared.rows.TheConstants.{MAX_ROW};
+ghost use Rattle.rm_record.specs.declared.records.LogRecord.{LogRecord as AnyRecord};
 ghost use Rattle.rm_record.specs.Places.{places_bytes};
 ghost use Rattle.rm_record.specs.Records.{slot_bytes, row_bytes, IsRecord, spelling};
 
-use rm_types::{Lsn, MAX_BLOCKS, MAX_PAGES, MAX_PLACES, Places, Rid, Row, Slot, TxnId};
+use rm_types::{Lsn, MAX_BLOCKS, MAX_PAGES, MAX_PLACES, MAX_ROW, Places, Rid, Row, Slot, TxnId};
 
 /// The fewest bytes that a record has.
 pub const MIN_RECORD: usize = 5;
@@ -14,6 +16,9 @@ pub const MIN_RECORD: usize = 5;
 pub const MAX_RECORD: usize = CHECKPOINT_FRONT as usize
     + 3 * COUNT_SIZE as usize
     + PLACE_SIZE as usize * (MAX_PLACES + MAX_PAGES as usize + MAX_BLOCKS as usize);
+
+/// The most bytes of a record that is no checkpoint: an update of one of the longest rows by another.
+pub const MAX_CHANGE: usize = CHANGE_FRONT as usize + 2 * (LENGTH_SIZE as usize + MAX_ROW);
 
 /// The kind byte of an insert.
 pub(crate) const INSERT: u8 = 1;
@@ -139,7 +144,7 @@ pub enum LogRecord {
 // How many bytes a row has in a record.
 fn row_size(row: &Row) -> u32
     ensures value { result ≡ length (row_bytes row.now) }
-    ensures bound { result ≤ 4078 }
+    ensures bound { result ≤ LENGTH_SIZE + MAX_ROW }
 {
     LENGTH_SIZE + row.as_slice().len() as u32
 }
@@ -147,7 +152,7 @@ fn row_size(row: &Row) -> u32
 // How many bytes what a slot holds has in a record.
 fn slot_size(slot: &Slot) -> u32
     ensures value { result ≡ length (slot_bytes slot.now) }
-    ensures bound { result ≤ 4079 }
+    ensures bound { result ≤ FORM_SIZE + LENGTH_SIZE + MAX_ROW }
 {
     match slot {
         Slot::Vacant => FORM_SIZE,
@@ -158,13 +163,25 @@ fn slot_size(slot: &Slot) -> u32
 // How many bytes places have in a record.
 fn places_size(places: &Places) -> u32
     ensures value { result ≡ length (places_bytes places.now) }
-    ensures bound { result ≤ 786_422 }
+    ensures bound { result ≤ COUNT_SIZE + PLACE_SIZE * MAX_PLACES }
 {
     COUNT_SIZE + PLACE_SIZE * places.as_slice().len() as u32
 }
 
 impl LogRecord {
-    /// How many bytes its spelling has.
+    /// So many bytes hold each record whose spelling begins with this byte: [`MAX_CHANGE`], or [`MAX_RECORD`].
+    pub fn most_bytes(first: u8) -> usize
+        ensures enough { (logged : AnyRecord) → IsRecord logged → slice_index (spelling logged) 0 ≡ first → length (spelling logged) ≤ result }
+        ensures bound { result ≤ MAX_RECORD }
+    {
+        if first == CHECKPOINT {
+            MAX_RECORD
+        } else {
+            MAX_CHANGE
+        }
+    }
+
+    /// How many bytes its spelling has: for a record in its ranges at most [`MAX_RECORD`].
     pub fn size(&self) -> u32
         ensures value { result ≡ length (spelling self.now) }
         ensures least { MIN_RECORD ≤ length (spelling self.now) }

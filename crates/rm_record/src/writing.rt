@@ -34,14 +34,7 @@ fn append_update(change: Change, old: &Row, new: &Row, out: &mut Vec<u8>)
 }
 
 // Appends a compensation, for which there is room.
-fn append_compensation(
-    txn: TxnId,
-    undone: Lsn,
-    next: Lsn,
-    rid: Rid,
-    back: &Slot,
-    out: &mut Vec<u8>,
-)
+fn append_compensation(txn: TxnId, undone: Lsn, next: Lsn, rid: Rid, back: &Slot, out: &mut Vec<u8>)
     requires { vec_len out.old + length (spelling (LogRecord.Compensate txn undone next rid back.now)) ≤ vec_capacity out.old }
     ensures items { out.new.items ≡ out.old.items ++ spelling (LogRecord.Compensate txn undone next rid back.now) }
     ensures capacity { vec_capacity out.old ≤ vec_capacity out.new }
@@ -65,13 +58,7 @@ fn append_inventory(txn: TxnId, page: u32, category: u8, out: &mut Vec<u8>)
 }
 
 // Appends a checkpoint, for which there is room.
-fn append_checkpoint(
-    next: u64,
-    losers: &Places,
-    pages: &Places,
-    blocks: &Places,
-    out: &mut Vec<u8>,
-)
+fn append_checkpoint(next: u64, losers: &Places, pages: &Places, blocks: &Places, out: &mut Vec<u8>)
     requires { vec_len out.old + length (spelling (LogRecord.Checkpoint next losers.now pages.now blocks.now)) ≤ vec_capacity out.old }
     ensures items { out.new.items ≡ out.old.items ++ spelling (LogRecord.Checkpoint next losers.now pages.now blocks.now) }
     ensures capacity { vec_capacity out.old ≤ vec_capacity out.new }

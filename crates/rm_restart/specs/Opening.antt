@@ -45,11 +45,13 @@ pub record NeedsUndoOf (told : Type 0) (content : Image) (id : ℕ) : Type 0 whe
   pub pends : pending (history_of batches) id ≡ [] → ⊥
   pub least : (other : ℕ) → other < id → pending (history_of batches) other ≡ []
 
--- with this record behind it the history names a page that the file lacks, or has a page that does not fit
+-- with this record behind it the history names a page that the file lacks, or has a kind that no log has yet, or a page
+-- that does not fit
 abbrev pub IsMisfit : ℕ → History → Logged → Type 0
 IsMisfit pages before logged = (IsBelow pages logged.what → ⊥) ⊎ ((page : ℕ) × (CAPACITY < used (page_of (logged ∷ before) page)))
 
--- The record with this LSN is the first that names no page of the file, or with which its page does not fit.
+-- The record with this LSN is the first that names no page of the file, or is of a kind that no log has yet, or with
+-- which its page does not fit.
 pub record IsMisfitAt (pages : ℕ) (history : History) (at : ℕ) : Type 0 where
   pub more : History
   pub logged : Logged

@@ -128,8 +128,8 @@ fn read_log<V: Volume>(
 ///
 /// - [`RestartFault::NotMade`] where the made byte is not 1.
 /// - [`Fault::Damaged`] on a volume that is made: the master's place, where it has no fields; the log's first place that
-///   is out of its grammar; the checkpoint that the master names, since no record of one can stand there; or the LSN of
-///   the first record that names no page of the file, or whose page has no room for it.
+///   is out of its grammar; the checkpoint that the master names, since no log has one yet; or the LSN of the first
+///   record that names no page of the file, or whose page has no room for it, or that is of a kind that no log has yet.
 /// - [`RestartFault::NeedsUndo`] with the least transaction that has a record in the log and did not commit.
 /// - [`Fault::Volume`] with the area that failed.
 /// - [`RestartFault::NoMemory`].

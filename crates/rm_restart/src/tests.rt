@@ -35,6 +35,14 @@ fn commit(lsn: Lsn, txn: u32) -> Logged {
     }
 }
 
+// An end at the LSN, a kind that no log has yet.
+fn end(lsn: Lsn) -> Logged {
+    Logged {
+        lsn,
+        what: LogRecord::End { txn: TxnId(1) },
+    }
+}
+
 // The replay of these records into two pages.
 fn replay_two(alloc: Global, records: &[Logged]) -> Result<Replay, Fail> {
     Ok(replayed(alloc, 2, records).ok().ok_or("it is replayed")?)
@@ -62,6 +70,17 @@ fn the_first_misfit_is_named(rt: HostRuntime) -> Result<(), Fail> {
     let mut records = Vec::new(alloc);
     records.push(insert(alloc, FIRST, 1, MAX_ROW)?)?;
     records.push(insert(alloc, SECOND, 2, 0)?)?;
+    let refused = replayed(alloc, 2, &records).err();
+    assert_eq!(rt; refused, Some(ReplayRefused::Misfit { at: SECOND }));
+    Ok(())
+}
+
+#[test]
+fn a_kind_that_no_log_has_is_a_misfit(rt: HostRuntime) -> Result<(), Fail> {
+    let alloc = rt.alloc();
+    let mut records = Vec::new(alloc);
+    records.push(insert(alloc, FIRST, 1, 3)?)?;
+    records.push(end(SECOND))?;
     let refused = replayed(alloc, 2, &records).err();
     assert_eq!(rt; refused, Some(ReplayRefused::Misfit { at: SECOND }));
     Ok(())

@@ -15,15 +15,17 @@ ghost use Rattle.rm_wal.specs.Tails.{end_of};
 ghost use Rattle.rm_wal.specs.Flushing.{ComesByFlush, IsFlushed, Tails, HasEither, written_tail};
 
 use crate::flushing::write_batch;
-use rm_history::BATCH_HEADER;
+use rm_history::{BATCH_HEADER, MAX_BATCH};
 use rm_outside::Volume;
-use rm_record::LogRecord;
+use rm_record::{LogRecord, MAX_RECORD};
 use rm_types::{Area, Fault, Lsn, NoMemory};
 use std::alloc::Global;
 use std::marker::Model;
 
-/// A tail that is longer, in bytes, is flushed before a record is appended.
+/// A tail that is longer, in bytes, is flushed before a record is appended. So a batch has room for any record.
 pub const LONG_TAIL: u64 = 1_048_576;
+
+const _: () = prove!(LONG_TAIL + MAX_RECORD as u64 <= MAX_BATCH);
 
 /// How many bytes of a batch's header stand in the buffer before its records: the length.
 const LENGTH_BYTES: usize = 4;

@@ -1,13 +1,13 @@
 //! Finding a record by its LSN, as an undo does.
 
-ghost use Rattle.std.specs.Prelude.{◌≡◌, ℕ, ◌<◌, ◌≤◌, IsTrue, IfOk, Err};
+ghost use Rattle.std.specs.Prelude.{◌≡◌, ℕ, ◌<◌, ◌≤◌, IsTrue, vec_len, IfOk, Err};
 ghost use Rattle.rm_types.specs.declared.areas.Area.{Area as Areas};
 ghost use Rattle.rm_types.specs.declared.numbers.TheConstants.{MAX_LOG};
 ghost use Rattle.rm_outside.specs.Faults.{Rises};
 ghost use Rattle.rm_outside.specs.Images.{Shows};
 ghost use Rattle.rm_outside.specs.Reading.{OnlyReads};
 ghost use Rattle.rm_record.specs.Records.{IsRecord, spelling};
-ghost use Rattle.rm_wal.specs.Lookups.{HasNoneAt, StandsInTail, HasNoneInTail};
+ghost use Rattle.rm_wal.specs.Lookups.{AreWithin, HasNoneAt, StandsInTail, HasNoneInTail};
 ghost use Rattle.rm_wal.specs.Tails.{end_of};
 
 use crate::log::Log;
@@ -15,9 +15,34 @@ use crate::parsing::{damaged, decode_at};
 use crate::reading::read_bytes;
 use rm_history::BATCH_HEADER;
 use rm_outside::Volume;
-use rm_record::{LogRecord, MAX_RECORD};
+use rm_record::{LogRecord, MAX_CHANGE};
 use rm_types::{Area, Fault, Lsn, StoreFault};
 use std::alloc::Global;
+
+// Bytes of area Log from that offset on: enough for any record that stands there. A record that is no checkpoint is read
+// by one call, and a short one.
+fn read_enough<V: Volume>(
+    alloc: Global,
+    volume: &mut V,
+    at: u64,
+) -> Result<Vec<u8>, StoreFault>
+    requires { at ≤ MAX_LOG }
+    ensures bytes { IfOk result (λ bytes. IsTrue V.tells → Shows (V.content volume.old Area.Log) at bytes.items) }
+    ensures enough { IfOk result (λ bytes. IsTrue V.tells → AreWithin (V.content volume.old Area.Log) at (vec_len bytes)) }
+    ensures damaged { (area : Areas) (place : ℕ) → result ≡ Err (StoreFault.Fault (Fault.Damaged area place)) → ⊥ }
+    ensures cause { (area : Areas) → result ≡ Err (StoreFault.Fault (Fault.Volume area)) → (area ≡ Area.Log) × Rises (V.faults volume.old Area.Log) (V.faults volume.new Area.Log) }
+    ensures reads { OnlyReads (V.content volume.old) (V.content volume.new) (V.may_leave volume.old) (V.may_leave volume.new)
+        (V.moment volume.old) (V.moment volume.new) (V.left_since volume.old) (V.left_since volume.new) (V.faults volume.old) (V.faults volume.new) }
+    ensures data_reads { V.data_reads volume.new ≡ V.data_reads volume.old }
+    ensures same { V.reference volume.new ≡ V.reference volume.old }
+{
+    let front = read_bytes(alloc, volume, at, MAX_CHANGE)?;
+    let most = LogRecord::most_bytes(front[0]);
+    if most <= MAX_CHANGE {
+        return Ok(front);
+    }
+    read_bytes(alloc, volume, at, most)
+}
 
 // The record that stands at that offset of area Log.
 fn read_at<V: Volume>(alloc: Global, volume: &mut V, at: u64) -> Result<LogRecord, StoreFault>
@@ -31,7 +56,7 @@ fn read_at<V: Volume>(alloc: Global, volume: &mut V, at: u64) -> Result<LogRecor
     ensures data_reads { V.data_reads volume.new ≡ V.data_reads volume.old }
     ensures same { V.reference volume.new ≡ V.reference volume.old }
 {
-    let bytes = read_bytes(alloc, volume, at, MAX_RECORD)?;
+    let bytes = read_enough(alloc, volume, at)?;
     let (found, _) = decode_at(alloc, at, &bytes)?;
     Ok(found)
 }

@@ -1,5 +1,4 @@
-use Rattle.std.proofs.Common.{arith, drop, length, length-drop}
-use Rattle.rm_types.specs.declared.places.Place.{Place}
+use Rattle.std.proofs.Common.{arith, drop, length-drop}
 use Rattle.rm_record.proofs.PlaceLaws.{length-entries}
 use Rattle.rm_record.proofs.checkpoints.append_places.Goals as goal
 

@@ -8,5 +8,5 @@ abbrev pub invariant-loop-place : goal.invariant-loop-place
 invariant-loop-place l = record {
   items : l.out.items ≡ l.initial.out.items ++ flat_map place_bytes (take l.place-index l.entries);
   room : vec_len l.out + length (flat_map place_bytes (drop l.place-index l.entries)) ≤ vec_capacity l.out;
-  capacity : vec_capacity l.initial.out ≤ vec_capacity l.out
+  capacity : vec_capacity l.initial.out ≤ vec_capacity l.out;
 }

@@ -1,5 +1,4 @@
-use Rattle.std.proofs.Common.{◌≡◌, ◌+◌, ◌-◌, suc, List, length, refl, sym, ap, ◌∙◌, arith, length-append, ◌∷◌, []}
-use Rattle.rm_types.specs.declared.places.Place.{Place}
+use Rattle.std.proofs.Common.{◌≡◌, ◌+◌, ◌-◌, suc, refl, ap, ◌∙◌, arith, length-append, ◌∷◌, []}
 use Rattle.rm_record.specs.Fields.{places_field, entries_field}
 use Rattle.rm_record.proofs.PlaceLaws.{behind, behind_none, entries_more}
 use Rattle.rm_record.proofs.checkpoints.places_of.Goals as goal

@@ -8,5 +8,5 @@ abbrev pub invariant-loop-place : goal.invariant-loop-place
 invariant-loop-place l = record {
   reads : places_field l.low l.high l.bytes ≡ behind l.places (entries_field (l.count - l._place) l.least l.high l.rest);
   above : next_number 0 l.places ≤ l.least;
-  count_is : length l.places ≡ l._place
+  count_is : length l.places ≡ l._place;
 }

@@ -1,4 +1,4 @@
-use Rattle.std.proofs.Common.{◌≡◌, List, ℕ, ◌++◌, append_assoc, refl}
+use Rattle.std.proofs.Common.{◌≡◌, List, ℕ, ◌++◌, append_assoc}
 use Rattle.rm_record.proofs.writing.append_compensation.Goals as goal
 
 -- five appended, one after the other

@@ -1,7 +1,3 @@
-use Rattle.std.proofs.Common.{◌≤◌, length, subst, sym}
-use Rattle.rm_record.specs.declared.records.LogRecord.{LogRecord}
-use Rattle.rm_record.specs.declared.records.TheConstants.{MAX_RECORD}
-use Rattle.rm_record.specs.Records.{spelling}
 use Rattle.rm_record.proofs.SizeLaws.{spellings_are_short}
 use Rattle.rm_record.proofs.records.LogRecord.size.Goals as goal
 
