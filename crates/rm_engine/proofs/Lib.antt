@@ -1,5 +1,6 @@
 pub mod Steps
 pub mod Flushes
+pub mod Logged
 pub mod Opened
 pub mod Changed
 pub mod Leaves
