@@ -8,3 +8,4 @@ mod TurnLemmas
 mod StandLemmas
 mod OpenedLemmas
 mod ScriptLemmas
+mod CompleteLemmas
