@@ -204,7 +204,7 @@ impl Engine {
         ensures same { V.reference volume.new ≡ V.reference volume.old }
     {
         match line {
-            Line::Begin => room_to_begin(&self.session, &self.log, self.inserts),
+            Line::Begin => room_to_begin(&self.session, &self.log),
             Line::Insert(_, row) => self.room_to_insert(volume, row.as_slice().len()),
             Line::Read(_) => Ok(()),
             Line::Commit => self.room_to_commit(volume),

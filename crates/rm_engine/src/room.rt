@@ -45,10 +45,10 @@ pub fn insert_cost(len: usize) -> u64
 ///
 /// [`TurnFault::TxnsSpent`] exactly where every id was given; else [`TurnFault::LogFull`] exactly where the
 /// log lacks the room.
-pub fn room_to_begin(session: &Session, log: &Log, inserts: u64) -> Result<(), TurnFault>
+pub fn room_to_begin(session: &Session, log: &Log) -> Result<(), TurnFault>
     requires { session.now.core.next ≤ 2 ^ 32 }
-    ensures room { OnOk result (HasRoom session.now.core log.now inserts Line.Begin) }
-    ensures full { (end : ℕ) → result ≡ Err (TurnFault.LogFull end) → LacksRoom log.now.limit session.now.core (used_of log.now inserts) Line.Begin end }
+    ensures room { OnOk result (HasRoom session.now.core log.now 0 Line.Begin) }
+    ensures full { (end : ℕ) → result ≡ Err (TurnFault.LogFull end) → LacksRoom log.now.limit session.now.core (used_of log.now 0) Line.Begin end }
     ensures spent { (last : Txns) → result ≡ Err (TurnFault.TxnsSpent last) → LacksIds session.now.core Line.Begin last }
     ensures only { (fault : Faults) → result ≡ Err (TurnFault.Fault fault) → ⊥ }
     ensures memory { result ≡ Err TurnFault.NoMemory → ⊥ }
