@@ -8,3 +8,5 @@ mod TurnLemmas
 mod StandLemmas
 mod OpenedLemmas
 mod ScriptLemmas
+mod ImageExamples
+mod DueExamples
