@@ -56,6 +56,10 @@ after_first = (refl, refl)
 after_both : (rows_after lines replies 2 none first ≡ Some two) × (rows_after lines replies 2 none second ≡ Some one)
 after_both = (refl, refl)
 
+-- of two rows at one place the later stands
+later_stands : rows_after (line.Begin ∷ line.Insert 0 two ∷ line.Insert 1 one ∷ []) (reply.Began (record { 0 = 1 }) ∷ reply.Inserted first ∷ reply.Inserted first ∷ []) 1 none first ≡ Some one
+later_stands = refl
+
 -- a transaction that begins takes one of those that may, and any other reply takes none
 takes_one : (left_to_begin (reply.Began (record { 0 = 7 })) 3 ≡ Some 2) × (left_to_begin (reply.Began (record { 0 = 7 })) 0 ≡ None)
 takes_one = (refl, refl)
@@ -104,12 +108,22 @@ commit_changes = (refl, refl)
 read_changes : Changes busy (line.Read (target.Name 0)) (reply.Row two) busy
 read_changes = (tt, refl)
 
--- a begin is not told that it is committed, and a transaction has no begin
+-- no begin is told that it is committed, and no read that it inserted
 no_commit_of_begin : (new : Core) → Changes idle line.Begin reply.Committed new → ⊥
 no_commit_of_begin new changes = changes.0
 
+no_insert_of_read : (new : Core) → Changes busy (line.Read (target.Name 0)) (reply.Inserted second) new → ⊥
+no_insert_of_read new changes = changes.0
+
+-- a transaction has no begin, and outside of one nothing is inserted or committed
 no_begin_inside : (new : Core) → Changes busy line.Begin (reply.Began (record { 0 = 3 })) new → ⊥
 no_begin_inside new changes = true≢false changes.0
+
+no_insert_outside : (new : Core) → Changes idle (line.Insert 1 one) (reply.Inserted second) new → ⊥
+no_insert_outside new changes = true≢false (sym changes.0)
+
+no_commit_outside : (new : Core) → Changes idle line.Commit reply.Committed new → ⊥
+no_commit_outside new changes = true≢false (sym changes.0)
 
 -- a commit counts, and what the pages show is committed; any other reply leaves both
 counts : (count_after reply.Committed 3 ≡ 4) × (count_after (reply.Began (record { 0 = 1 })) 3 ≡ 3) × (count_after reply.Skipped 3 ≡ 3)
@@ -125,9 +139,12 @@ commits = refl
 commits_none : (IsCommitOf idle line.Commit → ⊥) × (IsCommitOf busy line.Begin → ⊥)
 commits_none = (λ is. true≢false (sym is), λ is. is)
 
--- the last id is 4294967295: behind it a begin lacks one, before it none does
+-- the last id is 4294967295: behind it a begin outside of a transaction lacks one, and before it none does
 spent : LacksIds (record { pages = []; next = 4294967296; active = false }) line.Begin (record { 0 = 4294967295 })
 spent = (refl, refl, refl)
 
 not_spent : (last : TxnId) → LacksIds (record { pages = []; next = 4294967295; active = false }) line.Begin last → ⊥
 not_spent last lacks = omega (arith, lacks.1)
+
+not_inside : (last : TxnId) → LacksIds (record { pages = []; next = 4294967296; active = true }) line.Begin last → ⊥
+not_inside last lacks = true≢false lacks.0

@@ -11,9 +11,6 @@ use Rattle.rm_types.specs.declared.numbers.TheConstants.{MAX_PAGES}
 use Rattle.rm_types.specs.declared.operations.Reply.{Reply}
 use Rattle.rm_types.specs.declared.operations.Reply.TheVariants as reply
 use Rattle.rm_master.specs.Fresh.{IsFresh}
-use Rattle.rm_history.specs.Histories.{history_of, commits}
-use Rattle.rm_history.specs.Logs.{Batch}
-use Rattle.rm_history.proofs.Readings.{log_once}
 use Rattle.rmtool.specs.declared.commands.Command.{Command}
 use Rattle.rmtool.specs.declared.commands.Command.TheVariants as command
 use Rattle.rmtool.specs.declared.statuses.Status.{Status}
@@ -22,7 +19,7 @@ use Rattle.rmtool.specs.Commands.{Names}
 use Rattle.rmtool.specs.Status.{number_of, error_line}
 use Rattle.rmtool.specs.Volumes.{CreateText}
 use Rattle.rmtool.specs.Turns.{commit_of, HasAsked}
-use Rattle.rmtool.proofs.ImageExamples.{none, made, made_fresh, made_holds, row, first, batch, logged, logged_has_log, logged_holds}
+use Rattle.rmtool.proofs.ImageExamples.{none, made, made_fresh, made_holds, made_count, row, first, logged, logged_holds, logged_count}
 
 -- the commands of one word, and `create` with the fewest and the most pages
 one_word : Names (codes "plain" ∷ []) (Some command.Plain) × Names (codes "turns" ∷ []) (Some command.Turns) × Names (codes "restart" ∷ []) (Some command.Restart)
@@ -129,14 +126,8 @@ has = record { first = record { count = 1; began = lit≤ tt; holds = logged_hol
 
 -- before that none has it
 not_early : HasAsked 0 none lines replies None logged → ⊥
-not_early asked =
-    let sound = asked.first.holds.sound in
-    let same : sound.batches ≡ batch ∷ [] = log_once (logged area.Log) sound.batches (batch ∷ []) sound.image.log logged_has_log in
-    omega (arith, asked.few, asked.first.holds.commits_are, ap (λ (batches : List Batch). commits (history_of batches)) same)
+not_early asked = omega (arith, asked.few, logged_count _ _ asked.first.holds)
 
 -- and the commits from before the run are in each
 not_lost : HasAsked 1 none lines replies (Some line.Commit) made → ⊥
-not_lost asked =
-    let sound = asked.first.holds.sound in
-    let same : sound.batches ≡ [] = log_once (made area.Log) sound.batches [] sound.image.log (record { stands = tt; closed = made_fresh.cleared.gate }) in
-    omega (arith, asked.first.holds.commits_are, ap (λ (batches : List Batch). commits (history_of batches)) same)
+not_lost asked = omega (arith, made_count _ _ asked.first.holds)
