@@ -7,6 +7,8 @@ pub mod Leaves
 pub mod Kept
 pub mod Turned
 pub mod Runs
+pub mod RunsExamples
+pub mod RoomExamples
 pub mod Behind
 pub mod After
 pub mod RunImages

@@ -9,3 +9,5 @@ mod StandLemmas
 mod OpenedLemmas
 mod ScriptLemmas
 mod CompleteLemmas
+mod ImageExamples
+mod DueExamples
