@@ -1,11 +1,14 @@
 pub mod Steps
 pub mod Flushes
+pub mod Logged
 pub mod Opened
 pub mod Changed
 pub mod Leaves
 pub mod Kept
 pub mod Turned
 pub mod Runs
+pub mod RunsExamples
+pub mod RoomExamples
 pub mod Behind
 pub mod After
 pub mod RunImages

@@ -11,7 +11,9 @@ use Rattle.rm_record.specs.Records.{spelling}
 use Rattle.rm_wal.specs.declared.log.TheConstants.{LONG_TAIL}
 use Rattle.rm_wal.specs.Tails.{LogValue, end_of}
 use Rattle.rm_model.specs.Session.{IsFirstWithRoom, Core}
-use Rattle.rm_engine.specs.declared.room.TheConstants.{OWED, CHANGE_COST, INSERT_SIZE}
+use Rattle.rm_types.specs.declared.operations.Reply.{Reply}
+use Rattle.rm_types.specs.declared.operations.Reply.TheVariants as reply
+use Rattle.rm_engine.specs.declared.room.TheConstants.{OWED, CHANGE_COST, INSERT_SIZE, COMMIT_SIZE}
 
 -- what a transaction with so many pending inserts owes
 abbrev pub owed_by : ℕ → ℕ
@@ -24,6 +26,41 @@ cost_of len = INSERT_SIZE + len + CHANGE_COST
 -- the log once a long tail is flushed
 abbrev pub log_flushed : LogValue → LogValue
 log_flushed log = if nat_lt LONG_TAIL (length log.tail) then record log { batch = end_of log; tail = [] } else log
+
+-- How much of the log a session uses: where the batch that is being filled begins, how many bytes its records have,
+-- and how many inserts its transaction has.
+pub record Used : Type 0 where
+  pub batch : ℕ
+  pub tail : ℕ
+  pub inserts : ℕ
+
+-- what a session with this log and so many inserts uses
+abbrev pub used_of : LogValue → ℕ → Used
+used_of log inserts = record { batch = log.batch; tail = length log.tail; inserts = inserts }
+
+-- the offset that the next record has
+abbrev pub next_at : Used → ℕ
+next_at used = used.batch + (BATCH_HEADER + used.tail)
+
+-- what is used once a long tail is flushed
+abbrev pub flushed : Used → Used
+flushed used = if nat_lt LONG_TAIL used.tail then record used { batch = next_at used; tail = 0 } else used
+
+-- with an insert's record for a row of so many bytes in the tail
+abbrev pub with_insert : ℕ → Used → Used
+with_insert len used = record used { tail = used.tail + (INSERT_SIZE + len); inserts = used.inserts + 1 }
+
+-- with a commit's record, all of it flushed
+abbrev pub with_commit : Used → Used
+with_commit used = record used { batch = next_at used + COMMIT_SIZE; tail = 0 }
+
+-- What is used behind a line and its reply: a begin has no inserts yet, and where a record is logged a long tail is
+-- flushed before.
+abbrev pub used_after : Line → Reply → Used → Used
+used_after line.Begin (reply.Began id) used = record used { inserts = 0 }
+used_after (line.Insert name row) (reply.Inserted rid) used = with_insert (length row) (flushed used)
+used_after line.Commit reply.Committed used = with_commit (flushed used)
+used_after said told used = used
 
 -- The file, the ids and the log have room for what the session's transaction still does.
 pub record IsReady (core : Core) (log : LogValue) (inserts : ℕ) : Type 0 where
@@ -43,13 +80,24 @@ HasRoom core log inserts (line.Insert name row) = core.active ≡ true → (page
 HasRoom core log inserts (line.Read target) = Unit {0}
 HasRoom core log inserts line.Commit = core.active ≡ true → length log.tail ≤ LONG_TAIL
 
--- The log has no room for the line's turn, and would end there.
-abbrev pub LacksRoom : Core → LogValue → ℕ → Line → ℕ → Type 0
-LacksRoom core log inserts line.Begin end = (core.active ≡ false) × (core.next < 2 ^ 32) × (end ≡ end_of log) × (log.limit < end + OWED)
-LacksRoom core log inserts (line.Insert name row) end = (core.active ≡ true) × ((page : ℕ) × IsFirstWithRoom core.pages (length row) page) × (end ≡ end_of (log_flushed log))
-    × (log.limit < end + (cost_of (length row) + owed_by (inserts + 1)))
-LacksRoom core log inserts (line.Read target) end = ⊥
-LacksRoom core log inserts line.Commit end = ⊥
+-- a row of so many bytes has a place, and a transaction to put it there
+abbrev pub HasPlace : Core → ℕ → Type 0
+HasPlace core len = (core.active ≡ true) × ((page : ℕ) × IsFirstWithRoom core.pages len page)
+
+-- With this limit the log has no room for the line's turn, and would end there.
+abbrev pub LacksRoom : ℕ → Core → Used → Line → ℕ → Type 0
+LacksRoom limit core used line.Begin end = (core.active ≡ false) × (core.next < 2 ^ 32) × (end ≡ next_at used) × (limit < end + OWED)
+LacksRoom limit core used (line.Insert name row) end = HasPlace core (length row) × (end ≡ next_at (flushed used))
+    × (limit < end + (cost_of (length row) + owed_by (used.inserts + 1)))
+LacksRoom limit core used (line.Read target) end = ⊥
+LacksRoom limit core used line.Commit end = ⊥
+
+-- What making room for the line's turn makes of the log: a long tail is flushed where the turn logs a record.
+abbrev pub MakesRoom : Core → Line → LogValue → LogValue → Type 0
+MakesRoom core line.Begin old new = new ≡ old
+MakesRoom core (line.Insert name row) old new = (HasPlace core (length row) → new ≡ log_flushed old) × ((HasPlace core (length row) → ⊥) → new ≡ old)
+MakesRoom core (line.Read target) old new = new ≡ old
+MakesRoom core line.Commit old new = (core.active ≡ true → new ≡ log_flushed old) × (core.active ≡ false → new ≡ old)
 
 -- The line begins a transaction, and every id was given.
 abbrev pub LacksIds : Core → Line → TxnId → Type 0

@@ -1,4 +1,4 @@
--- The rows that the transactions of a run leave, in the order of their begins.
+-- A run over a log, and the rows that its transactions leave, in the order of their begins.
 use Rattle.std.specs.Prelude.{◌≡◌, ℕ, zero, suc, ◌+◌, ◌≤◌, List, [], ◌∷◌, length, Bool, true, false, Option, Some, None}
 use Rattle.std.specs.Option.{option_map_or}
 use Rattle.rm_types.specs.declared.lines.Line.{Line}
@@ -7,10 +7,24 @@ use Rattle.rm_types.specs.declared.operations.Reply.{Reply}
 use Rattle.rm_types.specs.declared.operations.Reply.TheVariants as reply
 use Rattle.rm_outside.specs.Images.{Image}
 use Rattle.rm_model.specs.Object.{Rows, with_row}
-use Rattle.rm_model.specs.Session.{rows_of, Core}
+use Rattle.rm_model.specs.Session.{rows_of, Core, State, Step}
 use Rattle.rm_wal.specs.Tails.{LogValue}
 use Rattle.rm_restart.specs.Sound.{Holds}
+use Rattle.rm_engine.specs.Numbers.{Used, used_after, LacksRoom}
 use Rattle.rm_engine.specs.At.{IsAt}
+
+-- the log has room for the line's turn
+abbrev pub HasLogRoom : ℕ → Core → Used → Line → Type 0
+HasLogRoom limit core used said = (end : ℕ) → LacksRoom limit core used said end → ⊥
+
+-- The lines draw these replies, each line once and in order, and each had room in the log, which is used so far
+-- before and so far behind them.
+abbrev pub LoggedRun : ℕ → State → Used → List Line → List Reply → State → Used → Type 0
+LoggedRun limit old used [] [] new now = (new ≡ old) × (now ≡ used)
+LoggedRun limit old used (said ∷ lines) (told ∷ replies) new now =
+    (mid : State) × Step old said told mid × HasLogRoom limit old.core used said × LoggedRun limit mid (used_after said told used) lines replies new now
+LoggedRun limit old used [] (told ∷ replies) new now = ⊥
+LoggedRun limit old used (said ∷ lines) [] new now = ⊥
 
 -- how many transactions were begun
 abbrev pub begins : List Reply → ℕ

@@ -15,7 +15,7 @@ ghost use Rattle.rm_record.specs.Records.{spelling};
 ghost use Rattle.rm_wal.specs.declared.log.TheConstants.{LONG_TAIL};
 ghost use Rattle.rm_wal.specs.Tails.{end_of};
 ghost use Rattle.rm_restart.specs.Sound.{Holds};
-ghost use Rattle.rm_engine.specs.Numbers.{IsReady, HasRoom, LacksRoom, LacksIds, cost_of, owed_by, log_flushed};
+ghost use Rattle.rm_engine.specs.Numbers.{IsReady, HasRoom, HasPlace, LacksRoom, LacksIds, MakesRoom, cost_of, owed_by, log_flushed, used_of, used_after, next_at, flushed};
 ghost use Rattle.rm_engine.specs.At.{IsAt, Changes, LeftByTurn, count_after, committed_after};
 
 use crate::faults::TurnFault;
@@ -99,11 +99,12 @@ impl Engine {
         ensures room { OnOk result (self.old.session.core.active ≡ true → (page : ℕ) → IsFirstWithRoom self.old.session.core.pages len page
             → (end_of self.new.log + (cost_of len + owed_by (self.old.inserts + 1)) ≤ self.new.log.limit) × (length self.new.log.tail ≤ LONG_TAIL)) }
         ensures exact { OnOk result (self.old.session.core.active ≡ true → (page : ℕ) → IsFirstWithRoom self.old.session.core.pages len page
-            → end_of (log_flushed self.old.log) + (cost_of len + owed_by (self.old.inserts + 1)) ≤ self.old.log.limit) }
-        ensures full { (end : ℕ) → result ≡ Err (TurnFault.LogFull end) → (self.old.session.core.active ≡ true) × ((page : ℕ) × IsFirstWithRoom self.old.session.core.pages len page)
-            × (end ≡ end_of (log_flushed self.old.log)) × (self.old.log.limit < end + (cost_of len + owed_by (self.old.inserts + 1))) }
+            → next_at (flushed (used_of self.old.log self.old.inserts)) + (cost_of len + owed_by (self.old.inserts + 1)) ≤ self.old.log.limit) }
+        ensures full { (end : ℕ) → result ≡ Err (TurnFault.LogFull end) → HasPlace self.old.session.core len
+            × (end ≡ next_at (flushed (used_of self.old.log self.old.inserts))) × (self.old.log.limit < end + (cost_of len + owed_by (self.old.inserts + 1))) }
         ensures spent { (last : Txns) → result ≡ Err (TurnFault.TxnsSpent last) → ⊥ }
 
+        ensures log { OnOk result ((HasPlace self.old.session.core len → self.new.log ≡ log_flushed self.old.log) × ((HasPlace self.old.session.core len → ⊥) → self.new.log ≡ self.old.log)) }
         ensures session { self.new.session ≡ self.old.session }
         ensures under { self.new.under ≡ self.old.under }
         ensures inserts { self.new.inserts ≡ self.old.inserts }
@@ -146,6 +147,7 @@ impl Engine {
         ensures full { (end : ℕ) → result ≡ Err (TurnFault.LogFull end) → ⊥ }
         ensures spent { (last : Txns) → result ≡ Err (TurnFault.TxnsSpent last) → ⊥ }
 
+        ensures log { OnOk result (MakesRoom self.old.session.core Line.Commit self.old.log self.new.log) }
         ensures session { self.new.session ≡ self.old.session }
         ensures under { self.new.under ≡ self.old.under }
         ensures inserts { self.new.inserts ≡ self.old.inserts }
@@ -178,10 +180,11 @@ impl Engine {
         requires durable { IsDurable Area.Log (V.content volume.old) (V.may_leave volume.old) }
 
         ensures room { OnOk result (HasRoom self.old.session.core self.new.log self.old.inserts line.now) }
-        ensures exact { OnOk result ((end : ℕ) → LacksRoom self.old.session.core self.old.log self.old.inserts line.now end → ⊥) }
-        ensures full { (end : ℕ) → result ≡ Err (TurnFault.LogFull end) → LacksRoom self.old.session.core self.old.log self.old.inserts line.now end }
+        ensures exact { OnOk result ((end : ℕ) → LacksRoom self.old.log.limit self.old.session.core (used_of self.old.log self.old.inserts) line.now end → ⊥) }
+        ensures full { (end : ℕ) → result ≡ Err (TurnFault.LogFull end) → LacksRoom self.old.log.limit self.old.session.core (used_of self.old.log self.old.inserts) line.now end }
         ensures spent { (last : Txns) → result ≡ Err (TurnFault.TxnsSpent last) → LacksIds self.old.session.core line.now last }
 
+        ensures log { OnOk result (MakesRoom self.old.session.core line.now self.old.log self.new.log) }
         ensures session { self.new.session ≡ self.old.session }
         ensures under { self.new.under ≡ self.old.under }
         ensures inserts { self.new.inserts ≡ self.old.inserts }
@@ -201,7 +204,7 @@ impl Engine {
         ensures same { V.reference volume.new ≡ V.reference volume.old }
     {
         match line {
-            Line::Begin => room_to_begin(&self.session, &self.log, self.inserts),
+            Line::Begin => room_to_begin(&self.session, &self.log),
             Line::Insert(_, row) => self.room_to_insert(volume, row.as_slice().len()),
             Line::Read(_) => Ok(()),
             Line::Commit => self.room_to_commit(volume),
@@ -221,6 +224,7 @@ impl Engine {
         requires room { HasRoom before.now.value.core self.old.log self.old.inserts line.now }
         requires durable { IsDurable Area.Log (V.content volume.old) (V.may_leave volume.old) }
 
+        ensures used { OnOk result (used_of self.new.log self.new.inserts ≡ used_after line.now reply.now (used_of self.old.log self.old.inserts)) }
         ensures session { self.new.session ≡ self.old.session }
         ensures ready { OnOk result (IsReady self.new.session.core self.new.log self.new.inserts) }
         ensures durable { OnOk result (IsDurable Area.Log (V.content volume.new) (V.may_leave volume.new)) }
@@ -275,6 +279,7 @@ impl Engine {
 
         // The session makes a step.
         ensures step { IfOk result (λ reply. Step self.old.session line.now reply self.new.session) }
+        ensures used { IfOk result (λ reply. used_of self.new.log self.new.inserts ≡ used_after line.now reply (used_of self.old.log self.old.inserts)) }
         ensures ready { OnOk result (IsReady self.new.session.core self.new.log self.new.inserts) }
         ensures durable { OnOk result (IsDurable Area.Log (V.content volume.new) (V.may_leave volume.new)) }
         ensures limit { OnOk result (self.new.log.limit ≡ self.old.log.limit) }
@@ -288,8 +293,8 @@ impl Engine {
             → IsAt pages count rows self.old.session.core self.old.log self.old.under.0 self.old.inserts (V.may_leave volume.old)
             → LeavesOnly (V.moment volume.old) (V.moment volume.new) (V.left_since volume.old) (V.left_since volume.new) (LeftByTurn count rows self.old.session.core line.now) }
 
-        ensures room { OnOk result ((end : ℕ) → LacksRoom self.old.session.core self.old.log self.old.inserts line.now end → ⊥) }
-        ensures full { (end : ℕ) → result ≡ Err (TurnFault.LogFull end) → LacksRoom self.old.session.core self.old.log self.old.inserts line.now end }
+        ensures room { OnOk result ((end : ℕ) → LacksRoom self.old.log.limit self.old.session.core (used_of self.old.log self.old.inserts) line.now end → ⊥) }
+        ensures full { (end : ℕ) → result ≡ Err (TurnFault.LogFull end) → LacksRoom self.old.log.limit self.old.session.core (used_of self.old.log self.old.inserts) line.now end }
         ensures spent { (last : Txns) → result ≡ Err (TurnFault.TxnsSpent last) → LacksIds self.old.session.core line.now last }
         ensures cause { (fault : Faults) → result ≡ Err (TurnFault.Fault fault) → (fault ≡ Fault.Volume Area.Log) × Rises (V.faults volume.old Area.Log) (V.faults volume.new Area.Log) }
         ensures counts { (area : Areas) → V.faults volume.old area ≤ V.faults volume.new area }

@@ -9,7 +9,7 @@ mod room;
 
 pub use engine::Engine;
 pub use faults::TurnFault;
-pub use room::{CHANGE_COST, INSERT_SIZE, OWED};
+pub use room::{CHANGE_COST, COMMIT_SIZE, INSERT_SIZE, OWED};
 
 #[cfg(test)]
 mod tests;

@@ -4,7 +4,7 @@ ghost use Rattle.std.specs.Prelude.{◌≡◌, ℕ, ◌+◌, ◌*◌, ◌^◌, �
 ghost use Rattle.rm_types.specs.declared.numbers.TxnId.{TxnId as Txns};
 ghost use Rattle.rm_types.specs.declared.faults.Fault.{Fault as Faults};
 ghost use Rattle.rm_types.specs.declared.rows.TheConstants.{MAX_ROW};
-ghost use Rattle.rm_engine.specs.Numbers.{IsReady, HasRoom, LacksRoom, LacksIds, owed_by, cost_of};
+ghost use Rattle.rm_engine.specs.Numbers.{IsReady, HasRoom, used_of, LacksRoom, LacksIds, owed_by, cost_of};
 
 use crate::faults::TurnFault;
 use rm_session::Session;
@@ -19,6 +19,9 @@ pub const CHANGE_COST: u64 = 32;
 
 /// What an insert's record has beside its row, in bytes.
 pub const INSERT_SIZE: u64 = 23;
+
+/// A commit's record, in bytes.
+pub const COMMIT_SIZE: u64 = 5;
 
 /// What a transaction with so many pending inserts owes.
 pub fn owed(inserts: u64) -> u64
@@ -42,10 +45,10 @@ pub fn insert_cost(len: usize) -> u64
 ///
 /// [`TurnFault::TxnsSpent`] exactly where every id was given; else [`TurnFault::LogFull`] exactly where the
 /// log lacks the room.
-pub fn room_to_begin(session: &Session, log: &Log, inserts: u64) -> Result<(), TurnFault>
+pub fn room_to_begin(session: &Session, log: &Log) -> Result<(), TurnFault>
     requires { session.now.core.next ≤ 2 ^ 32 }
-    ensures room { OnOk result (HasRoom session.now.core log.now inserts Line.Begin) }
-    ensures full { (end : ℕ) → result ≡ Err (TurnFault.LogFull end) → LacksRoom session.now.core log.now inserts Line.Begin end }
+    ensures room { OnOk result (HasRoom session.now.core log.now 0 Line.Begin) }
+    ensures full { (end : ℕ) → result ≡ Err (TurnFault.LogFull end) → LacksRoom log.now.limit session.now.core (used_of log.now 0) Line.Begin end }
     ensures spent { (last : Txns) → result ≡ Err (TurnFault.TxnsSpent last) → LacksIds session.now.core Line.Begin last }
     ensures only { (fault : Faults) → result ≡ Err (TurnFault.Fault fault) → ⊥ }
     ensures memory { result ≡ Err TurnFault.NoMemory → ⊥ }

@@ -1,15 +1,8 @@
 -- Words and the commands that they are.
 use Rattle.std.proofs.Common.{◌≡◌, ℕ, List, [], ◌∷◌, length, get_or, Option, Some, None, refl, ap, sym, ◌∙◌, subst, inl, inr, ◌⊎◌, arith}
-use Rattle.rm_types.specs.declared.areas.Area.{Area}
-use Rattle.rm_outside.specs.Images.{Image}
 use Rattle.rmtool.specs.declared.commands.Command.{Command}
 use Rattle.rmtool.specs.declared.commands.Command.TheVariants as command
-use Rattle.rmtool.specs.declared.statuses.Status.{Status}
 use Rattle.rmtool.specs.Commands.{IsCommand, Names, TakesScript, HasScript}
-use Rattle.rmtool.specs.Told.{Answers}
-use Rattle.rmtool.specs.Plain.{IsComplete}
-use Rattle.rmtool.specs.Due.{DueFor}
-use Rattle.rmtool.proofs.PlainLemmas.{complete}
 
 -- a list of one
 pub one : {X : Type 0} (xs : List X) (x : X) → length xs ≡ 1 → x ≡ get_or xs 0 x → xs ≡ x ∷ []
@@ -61,11 +54,3 @@ pub names_plain_or_none : (words : List (List ℕ)) (named : Option Command) →
 names_plain_or_none words named names (inl is) = inl (names_plain words named names is)
 names_plain_or_none words None names (inr none) = inr refl
 names_plain_or_none words (Some any) names (inr none) = absurd (none any names)
-
--- what was told for the words `plain` is complete
-pub named_complete : (words : List (List ℕ)) (named : Option Command) (source a b : Option (List ℕ)) (source_failed sink_failed told : Type 0) (content : Image) (left leaves : Image → Type 0)
-    (before now : ℕ) (past since : ℕ → Image → Type 0) (risen : Area → Type 0) (answer : Status) → Names words named → IsCommand words command.Plain
-    → Answers (DueFor named source source_failed told content left leaves before now past since risen) a b sink_failed answer → IsComplete source source_failed sink_failed answer
-named_complete words named source a b source_failed sink_failed told content left leaves before now past since risen answer names is answers =
-    complete source a b source_failed sink_failed answer
-    (subst (λ (o : Option Command). Answers (DueFor o source source_failed told content left leaves before now past since risen) a b sink_failed answer) (names_plain words named names is) answers)

@@ -8,3 +8,6 @@ mod TurnLemmas
 mod StandLemmas
 mod OpenedLemmas
 mod ScriptLemmas
+mod CompleteLemmas
+mod ImageExamples
+mod DueExamples

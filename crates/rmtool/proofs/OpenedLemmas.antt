@@ -25,6 +25,7 @@ use Rattle.rm_restart.specs.declared.faults.RestartFault.{RestartFault}
 use Rattle.rm_restart.specs.declared.faults.RestartFault.TheVariants as restart
 use Rattle.rm_restart.proofs.Soundness.{opened_is_sound}
 use Rattle.rm_engine.specs.declared.engine.Engine.{Engine}
+use Rattle.rm_engine.specs.Numbers.{Used, used_of}
 use Rattle.rm_engine.specs.At.{IsAt}
 use Rattle.rm_engine.proofs.Opened.{at_opened}
 use Rattle.rmtool.specs.declared.statuses.Status.{Status}
@@ -34,34 +35,35 @@ use Rattle.rmtool.specs.Running.{Moves}
 use Rattle.rmtool.specs.Told.{Begins, is_sink, Owes}
 use Rattle.rmtool.specs.Volumes.{RefusedText}
 use Rattle.rmtool.specs.Turns.{RunTo, RunText, HasRunImages, LinesDue}
-use Rattle.rmtool.specs.Turning.{LeavesRun, Gathers}
+use Rattle.rmtool.specs.Turning.{used_by, LeavesRun, Gathers}
 
 -- a run of which more holds
-abbrev run_to_more : (first : State) (lines : List Line) (L M : List Line → List Reply → Option Line → Type 0) → ((done : List Line) (replies : List Reply) (next : Option Line) → L done replies next → M done replies next) → RunTo first lines L → RunTo first lines M
-run_to_more first lines L M then_holds run = record {
+abbrev run_to_more : (first : State) (start : Used) (lines : List Line) (L M : List Line → List Reply → Option Line → Type 0) → ((done : List Line) (replies : List Reply) (next : Option Line) → L done replies next → M done replies next) → RunTo first start lines L → RunTo first start lines M
+run_to_more first start lines L M then_holds run = record {
   count = run.count;
   replies = run.replies;
   last = run.last;
+  used = run.used;
   run = run.run;
   leaves = then_holds _ _ _ run.leaves;
 }
 
-module _ (first : State) (lines : List Line) (L M : List Line → List Reply → Option Line → Type 0) (risen later : Area → Type 0)
+module _ (first : State) (start : Used) (lines : List Line) (L M : List Line → List Reply → Option Line → Type 0) (risen later : Area → Type 0)
     (then_holds : (done : List Line) (replies : List Reply) (next : Option Line) → L done replies next → M done replies next) (then_risen : (area : Area) → risen area → later area) where
-  run_text_more : (answer : Status) (text : List ℕ) → RunText first lines L risen answer text → RunText first lines M later answer text
-  run_text_more status.Done text due = (run_to_more first lines L M then_holds due.0, due.1, due.2)
+  run_text_more : (answer : Status) (text : List ℕ) → RunText first start lines L risen answer text → RunText first start lines M later answer text
+  run_text_more status.Done text due = (run_to_more first start lines L M then_holds due.0, due.1, due.2)
   run_text_more status.Usage text due = absurd due
   run_text_more (status.BadScript line) text due = absurd due
-  run_text_more (status.Volume area) text due = (then_risen area due.0, (run_to_more first lines L M then_holds due.1.0, due.1.1))
+  run_text_more (status.Volume area) text due = (then_risen area due.0, (run_to_more first start lines L M then_holds due.1.0, due.1.1))
   run_text_more status.Source text due = absurd due
-  run_text_more status.Sink text due = (run_to_more first lines L M then_holds due.0, due.1)
+  run_text_more status.Sink text due = (run_to_more first start lines L M then_holds due.0, due.1)
   run_text_more status.NotMade text due = absurd due
   run_text_more status.AlreadyMade text due = absurd due
   run_text_more (status.Damaged area at) text due = absurd due
   run_text_more (status.Limit which) text due = absurd due
-  run_text_more status.NoMemory text due = (run_to_more first lines L M then_holds due.0, due.1)
-  run_text_more (status.LogFull end) text due = (run_to_more first lines L M then_holds due.0, due.1, due.2)
-  run_text_more (status.TxnsSpent last) text due = (run_to_more first lines L M then_holds due.0, due.1, due.2)
+  run_text_more status.NoMemory text due = (run_to_more first start lines L M then_holds due.0, due.1)
+  run_text_more (status.LogFull end) text due = (run_to_more first start lines L M then_holds due.0, due.1, due.2)
+  run_text_more (status.TxnsSpent last) text due = (run_to_more first start lines L M then_holds due.0, due.1, due.2)
   run_text_more (status.NeedsUndo txn) text due = absurd due
 
 -- where the session stands, by the parts of its engine
@@ -91,17 +93,21 @@ module _ (told : Type 0) (content : Image) (left half_left leaves : Image → Ty
       subst (λ (b : List Batch). HasRunImages (commits (history_of b)) (rows_of_log (history_of b)) left leaves before now past since done replies asked) (sym read.batches_are)
       (record { any_moment = joined (weaker time (λ c l. inl l)) (weaker run.0 (λ c has. inr has)); durable = run.1 })
 
-  pub lines_due : (answer : Status) (text : List ℕ) → RunText engine.session lines (LeavesRun engine half_left leaves mid now half since) risen answer text
+  abbrev Leaves : List Line → List Reply → Option Line → Type 0
+  Leaves done replies asked = told → (sound : IsSound content)
+      → HasRunImages (commits (history_of sound.batches)) (rows_of_log (history_of sound.batches)) left leaves before now past since done replies asked
+
+  pub lines_due : (answer : Status) (text : List ℕ) → RunText engine.session (used_by engine) lines (LeavesRun engine half_left leaves mid now half since) risen answer text
       → LinesDue told content left leaves before now past since later lines answer text
-  lines_due answer text due = inr (record {
+  lines_due answer text due = let uses : used_by engine ≡ used_of log 0 = ap (λ (l : LogValue). used_of l engine.inserts) log_is ∙ ap (used_of log) inserts in inr (record {
     pages = pages;
     next = next;
     log = log;
     inserted = inserted;
     opens = opens;
-    written = subst (λ (s : State). RunText s lines (λ done replies asked. told → (sound : IsSound content)
-        → HasRunImages (commits (history_of sound.batches)) (rows_of_log (history_of sound.batches)) left leaves before now past since done replies asked) later answer text) session
-        (run_text_more engine.session lines _ _ risen later run_images then_risen answer text due);
+    written = subst (λ (s : State). RunText s (used_of log 0) lines Leaves later answer text) session
+        (subst (λ (u : Used). RunText engine.session u lines Leaves later answer text) uses
+        (run_text_more engine.session (used_by engine) lines _ _ risen later run_images then_risen answer text due));
   })
 
 -- What was gathered was due, so it is due for more.

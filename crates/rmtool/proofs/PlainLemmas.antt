@@ -23,7 +23,8 @@ use Rattle.rmtool.specs.Reading.{HasLeft, Reads}
 use Rattle.rmtool.specs.Running.{DidSome, DidAll, Broke}
 use Rattle.std.specs.Prelude.{MatchBool}
 use Rattle.rmtool.specs.Told.{is_sink, Answers, Owes}
-use Rattle.rmtool.specs.Plain.{Draws, IsDueFor, PlainDue, IsComplete}
+use Rattle.rmtool.specs.Plain.{Draws, IsDueFor, PlainDue}
+use Rattle.rmtool.specs.Complete.{IsDone}
 
 -- the bytes that a source has, where it tells them
 pub some_left : (left : Option (List ℕ)) → (bytes : List ℕ) × HasLeft left bytes
@@ -142,7 +143,7 @@ none_wrong number bytes lines plain first =
     no_wrong lines first.right first.wrong first.rest (subst (λ (texts : List (List ℕ)). AreLines lines texts) first.cut plain) first.is_wrong
 
 -- what is due for a script in the plain form
-due_done : (bytes : List ℕ) (lines : List Line) (source_failed : Type 0) (answer : Status) (text : List ℕ) → IsPlain lines bytes → IsWithinLimits bytes → (source_failed → ⊥) → IsDueFor bytes source_failed answer text → (answer ≡ status.Done) ⊎ (answer ≡ status.NoMemory)
+due_done : (bytes : List ℕ) (lines : List Line) (source_failed : Type 0) (answer : Status) (text : List ℕ) → IsPlain lines bytes → IsWithinLimits bytes → (source_failed → ⊥) → IsDueFor bytes source_failed answer text → IsDone answer
 due_done bytes lines source_failed status.Done text plain limits source_well due = inl refl
 due_done bytes lines source_failed status.NoMemory text plain limits source_well due = inr refl
 due_done bytes lines source_failed status.Usage text plain limits source_well due = absurd due
@@ -159,17 +160,11 @@ due_done bytes lines source_failed (status.LogFull end) text plain limits source
 due_done bytes lines source_failed (status.TxnsSpent last) text plain limits source_well due = absurd due
 due_done bytes lines source_failed (status.NeedsUndo txn) text plain limits source_well due = absurd due
 
--- it is done, unless the sink failed
-written_done : (sink : Bool) (bytes : List ℕ) (lines : List Line) (left : Option (List ℕ)) (source_failed sink_failed P : Type 0) (answer : Status) (text : List ℕ) → left ≡ Some bytes → IsPlain lines bytes → IsWithinLimits bytes → (source_failed → ⊥) → (sink_failed → ⊥)
-    → MatchBool sink (sink_failed × P) (PlainDue left source_failed answer text) → (answer ≡ status.Done) ⊎ (answer ≡ status.NoMemory)
-written_done true bytes lines left source_failed sink_failed P answer text told plain limits source_well sink_well written = absurd (sink_well written.0)
-written_done false bytes lines left source_failed sink_failed P answer text told plain limits source_well sink_well written =
-    let same : bytes ≡ written.0 = subst (λ (o : Option (List ℕ)). HasLeft o written.0) told written.1 in
-    due_done written.0 lines source_failed answer text (subst (λ (all : List ℕ). IsPlain lines all) same plain) (subst IsWithinLimits same limits) source_well written.2
-
-pub complete : (left a b : Option (List ℕ)) (source_failed sink_failed : Type 0) (answer : Status) → Answers (PlainDue left source_failed) a b sink_failed answer → IsComplete left source_failed sink_failed answer
-complete left a b source_failed sink_failed answer answers = λ bytes lines told plain limits source_well sink_well.
-    written_done (is_sink answer) bytes lines left source_failed sink_failed _ answer answers.text told plain limits source_well sink_well answers.written
+pub plain_done : (source : Option (List ℕ)) (source_failed : Type 0) (answer : Status) (text bytes : List ℕ) (lines : List Line) → source ≡ Some bytes → IsPlain lines bytes → IsWithinLimits bytes → (source_failed → ⊥)
+    → PlainDue source source_failed answer text → IsDone answer
+plain_done source source_failed answer text bytes lines is plain limits source_well due =
+    let same : bytes ≡ due.0 = subst (λ (o : Option (List ℕ)). HasLeft o due.0) is due.1 in
+    due_done due.0 lines source_failed answer text (subst (λ (all : List ℕ). IsPlain lines all) same plain) (subst IsWithinLimits same limits) source_well due.2
 
 -- a script within the limits has few lines
 pub few_lines : (lines : List Line) (texts : List (List ℕ)) → AreLines lines texts → length lines ≡ length texts

@@ -8,3 +8,4 @@ pub mod Volumes
 pub mod Turns
 pub mod Turning
 pub mod Due
+pub mod Complete

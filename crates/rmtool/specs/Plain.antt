@@ -37,10 +37,3 @@ IsDueFor bytes source_failed other text = ⊥
 -- The same, for the bytes that the source had: those that it told if it told them.
 abbrev pub PlainDue : Option (List ℕ) → Type 0 → Status → List ℕ → Type 0
 PlainDue left source_failed answer text = (bytes : List ℕ) × HasLeft left bytes × IsDueFor bytes source_failed answer text
-
--- Where the source tells a script in the plain form within the limits, and nothing fails, the command is done,
--- unless memory runs out.
-abbrev pub IsComplete : Option (List ℕ) → Type 0 → Type 0 → Status → Type 0
-IsComplete left source_failed sink_failed answer =
-    (bytes : List ℕ) (lines : List Line) → left ≡ Some bytes → IsPlain lines bytes → IsWithinLimits bytes
-    → (source_failed → ⊥) → (sink_failed → ⊥) → (answer ≡ status.Done) ⊎ (answer ≡ status.NoMemory)

@@ -2,20 +2,25 @@
 use Rattle.std.specs.Prelude.{◌≡◌, ℕ, false, List, ◌++◌, Option, MatchBool}
 use Rattle.rm_types.specs.declared.lines.Line.{Line}
 use Rattle.rm_types.specs.declared.operations.Reply.{Reply}
+use Rattle.rm_types.specs.declared.numbers.TheConstants.{MAX_LOG}
 use Rattle.rm_outside.specs.Images.{Image}
 use Rattle.rm_outside.specs.Moments.{LeavesOnly}
 use Rattle.rm_outside.specs.Streams.{Takes}
 use Rattle.rm_model.specs.Object.{Rows}
-use Rattle.rm_model.specs.Session.{State, Run}
 use Rattle.rm_model.specs.Texts.{turn_lines}
 use Rattle.rm_engine.specs.declared.engine.Engine.{Engine}
 use Rattle.rm_engine.specs.At.{IsAt}
-use Rattle.rm_engine.specs.Runs.{HasAcknowledged, IsWithin, IsAfter}
+use Rattle.rm_engine.specs.Numbers.{Used, used_of}
+use Rattle.rm_engine.specs.Runs.{LoggedRun, HasAcknowledged, IsWithin, IsAfter}
 use Rattle.rmtool.specs.declared.turns.TheConstants.{SESSION}
 use Rattle.rmtool.specs.declared.statuses.Status.{Status}
 use Rattle.rmtool.specs.Status.{error_line}
 use Rattle.rmtool.specs.Turns.{HasAsked}
 use Rattle.rmtool.specs.Told.{Begins, is_sink}
+
+-- how much of the log the session uses
+abbrev pub used_by : Engine → Used
+used_by engine = used_of engine.log engine.inserts
 
 -- From wherever it stood it stands behind the lines now, and each image since had no more than was acknowledged.
 abbrev pub StandsBehind : Engine → Engine → (Image → Type 0) → (Image → Type 0) → ℕ → ℕ → (ℕ → Image → Type 0) → (ℕ → Image → Type 0) → List Line → List Reply → Type 0
@@ -29,11 +34,11 @@ LeavesRun from left leaves before now past since lines replies next = (pages cou
     → IsAt pages count rows from.session.core from.log from.under.0 from.inserts left → from.session.core.active ≡ false
     → LeavesOnly before now past since (HasAsked count rows lines replies next) × ((c : Image) → leaves c → HasAcknowledged count rows lines replies c)
 
--- The session did the lines. The sink took a front of their replies' text, and the buffer has the rest.
-pub record Turned (old new : State) (lines : List Line) (Leaves : List Line → List Reply → Type 0) (before after : Option (List ℕ)) (buffer : List ℕ) : Type 0 where
+-- The session did the lines, and each had room in the log. The sink took a front of their replies' text, and the buffer has the rest.
+pub record Turned (old new : Engine) (lines : List Line) (Leaves : List Line → List Reply → Type 0) (before after : Option (List ℕ)) (buffer : List ℕ) : Type 0 where
   pub replies : List Reply
   pub sent : List ℕ
-  pub run : Run old lines replies new
+  pub run : LoggedRun MAX_LOG old.session (used_by old) lines replies new.session (used_by new)
   pub took : Takes before after sent
   pub text : sent ++ buffer ≡ turn_lines SESSION replies
   pub leaves : Leaves lines replies

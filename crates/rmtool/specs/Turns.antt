@@ -10,7 +10,7 @@ use Rattle.rm_types.specs.declared.numbers.TxnId.{TxnId}
 use Rattle.rm_outside.specs.Images.{Image}
 use Rattle.rm_outside.specs.Moments.{LeavesOnly}
 use Rattle.rm_model.specs.Object.{Rows}
-use Rattle.rm_model.specs.Session.{State, Run, opened}
+use Rattle.rm_model.specs.Session.{State, opened}
 use Rattle.rm_model.specs.Grammar.{IsTurns, IsFirstWrongTurns, IsWithinLimits}
 use Rattle.rm_model.specs.Texts.{turn_lines, unfinished_line}
 use Rattle.rm_history.specs.Histories.{history_of, rows_of_log, commits}
@@ -18,8 +18,8 @@ use Rattle.rm_script.specs.Refusals.{HasTooMuch}
 use Rattle.rm_wal.specs.Tails.{LogValue}
 use Rattle.rm_restart.specs.Sound.{IsSound}
 use Rattle.rm_restart.specs.Opening.{Opens}
-use Rattle.rm_engine.specs.Numbers.{LacksRoom, LacksIds}
-use Rattle.rm_engine.specs.Runs.{acknowledged, HasFirst, HasAcknowledged}
+use Rattle.rm_engine.specs.Numbers.{Used, used_of, LacksRoom, LacksIds}
+use Rattle.rm_engine.specs.Runs.{LoggedRun, acknowledged, HasFirst, HasAcknowledged}
 use Rattle.rmtool.specs.declared.turns.TheConstants.{SESSION}
 use Rattle.rmtool.specs.declared.statuses.Status.{Status}
 use Rattle.rmtool.specs.declared.statuses.Status.TheVariants as status
@@ -27,13 +27,14 @@ use Rattle.rmtool.specs.Status.{error_line}
 use Rattle.rmtool.specs.Reading.{HasLeft}
 use Rattle.rmtool.specs.Volumes.{RefusedText}
 
--- A session did the first so many of the lines, from this state to that one, and this holds of its replies and of
--- the line behind them.
-pub record RunTo (first : State) (lines : List Line) (Leaves : List Line → List Reply → Option Line → Type 0) : Type 0 where
+-- A session did the first so many of the lines, from this state and this use of the log to that one, and this holds
+-- of its replies and of the line behind them.
+pub record RunTo (first : State) (start : Used) (lines : List Line) (Leaves : List Line → List Reply → Option Line → Type 0) : Type 0 where
   pub count : ℕ
   pub replies : List Reply
   pub last : State
-  pub run : Run first (take count lines) replies last
+  pub used : Used
+  pub run : LoggedRun MAX_LOG first start (take count lines) replies last used
   pub leaves : Leaves (take count lines) replies (slice_get lines count)
 
 -- the line of a transaction that the session still has
@@ -41,13 +42,10 @@ abbrev pub unfinished_of : State → List ℕ
 unfinished_of last = if last.core.active then unfinished_line SESSION (last.core.next - 1) else []
 
 -- the log lacks room, or the ids are spent, for the line behind the first so many
-pub record IsFull (lines : List Line) (count : ℕ) (last : State) (end : ℕ) : Type 0 where
+pub record IsFull (lines : List Line) (count : ℕ) (last : State) (used : Used) (end : ℕ) : Type 0 where
   pub asked : Line
   pub is_next : slice_get lines count ≡ Some asked
-  pub log : LogValue
-  pub inserts : ℕ
-  pub limit : log.limit ≡ MAX_LOG
-  pub lacks : LacksRoom last.core log inserts asked end
+  pub lacks : LacksRoom MAX_LOG last.core used asked end
 
 pub record IsSpent (lines : List Line) (count : ℕ) (last : State) (id : TxnId) : Type 0 where
   pub asked : Line
@@ -55,20 +53,20 @@ pub record IsSpent (lines : List Line) (count : ℕ) (last : State) (id : TxnId)
   pub lacks : LacksIds last.core asked id
 
 -- Why the status comes once a session began, and what its text is. Where the sink fails that text is the replies.
-abbrev pub RunText : State → List Line → (List Line → List Reply → Option Line → Type 0) → (Area → Type 0) → Status → List ℕ → Type 0
-RunText first lines Leaves risen status.Done text =
-    (run : RunTo first lines Leaves) × (length lines ≤ run.count) × (text ≡ turn_lines SESSION run.replies ++ unfinished_of run.last)
-RunText first lines Leaves risen (status.Volume area) text =
-    risen area × ((run : RunTo first lines Leaves) × (text ≡ turn_lines SESSION run.replies ++ error_line (status.Volume area)))
-RunText first lines Leaves risen (status.LogFull end) text =
-    (run : RunTo first lines Leaves) × IsFull lines run.count run.last end × (text ≡ turn_lines SESSION run.replies ++ error_line (status.LogFull end))
-RunText first lines Leaves risen (status.TxnsSpent id) text =
-    (run : RunTo first lines Leaves) × IsSpent lines run.count run.last id × (text ≡ turn_lines SESSION run.replies ++ error_line (status.TxnsSpent id))
-RunText first lines Leaves risen status.NoMemory text =
-    (run : RunTo first lines Leaves) × ((shown : ℕ) × (text ≡ turn_lines SESSION (take shown run.replies) ++ error_line status.NoMemory))
-RunText first lines Leaves risen status.Sink text =
-    (run : RunTo first lines Leaves) × (text ≡ turn_lines SESSION run.replies)
-RunText first lines Leaves risen other text = ⊥
+abbrev pub RunText : State → Used → List Line → (List Line → List Reply → Option Line → Type 0) → (Area → Type 0) → Status → List ℕ → Type 0
+RunText first start lines Leaves risen status.Done text =
+    (run : RunTo first start lines Leaves) × (length lines ≤ run.count) × (text ≡ turn_lines SESSION run.replies ++ unfinished_of run.last)
+RunText first start lines Leaves risen (status.Volume area) text =
+    risen area × ((run : RunTo first start lines Leaves) × (text ≡ turn_lines SESSION run.replies ++ error_line (status.Volume area)))
+RunText first start lines Leaves risen (status.LogFull end) text =
+    (run : RunTo first start lines Leaves) × IsFull lines run.count run.last run.used end × (text ≡ turn_lines SESSION run.replies ++ error_line (status.LogFull end))
+RunText first start lines Leaves risen (status.TxnsSpent id) text =
+    (run : RunTo first start lines Leaves) × IsSpent lines run.count run.last id × (text ≡ turn_lines SESSION run.replies ++ error_line (status.TxnsSpent id))
+RunText first start lines Leaves risen status.NoMemory text =
+    (run : RunTo first start lines Leaves) × ((shown : ℕ) × (text ≡ turn_lines SESSION (take shown run.replies) ++ error_line status.NoMemory))
+RunText first start lines Leaves risen status.Sink text =
+    (run : RunTo first start lines Leaves) × (text ≡ turn_lines SESSION run.replies)
+RunText first start lines Leaves risen other text = ⊥
 
 -- one where the next line is a commit
 abbrev pub commit_of : Option Line → ℕ
@@ -95,7 +93,7 @@ pub record OpenedText (told : Type 0) (content : Image) (left leaves : Image →
   pub log : LogValue
   pub inserted : ℕ
   pub opens : Opens told content MAX_LOG pages next log inserted
-  pub written : RunText (opened pages next) lines (λ done replies asked. told → (sound : IsSound content)
+  pub written : RunText (opened pages next) (used_of log 0) lines (λ done replies asked. told → (sound : IsSound content)
       → HasRunImages (commits (history_of sound.batches)) (rows_of_log (history_of sound.batches)) left leaves before now past since done replies asked) risen answer text
 
 -- what is due for the lines of a script

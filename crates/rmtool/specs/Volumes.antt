@@ -29,11 +29,12 @@ CreateText pages told content leaves risen status.NoMemory text = text ≡ error
 CreateText pages told content leaves risen other text = ⊥
 
 -- What is due for `create`. Each image since the start is one from before, or is not made, or is a volume of so
--- many pages without rows; and where the volume was made, each is one from before.
+-- many pages without rows; and where the volume was made, or memory ran out, each is one from before.
 pub record CreateDue (pages : ℕ) (told : Type 0) (content : Image) (left leaves : Image → Type 0) (before now : ℕ) (past since : ℕ → Image → Type 0) (risen : Area → Type 0) (answer : Status) (text : List ℕ) : Type 0 where
   pub texts : CreateText pages told content leaves risen answer text
   pub images : LeavesOnly before now past since (λ c. left c ⊎ (IsUnmade c ⊎ IsFresh pages c))
   pub made : told → IsMade content → LeavesOnly before now past since left
+  pub untouched : answer ≡ status.NoMemory → LeavesOnly before now past since left
 
 -- the error line of a volume that was not opened, and why
 abbrev pub RefusedText : Type 0 → Image → (Area → Type 0) → Status → List ℕ → Type 0

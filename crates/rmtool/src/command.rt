@@ -2,12 +2,14 @@
 
 ghost use Rattle.std.specs.Prelude.{◌≡◌, ◌≤◌, ◌⊎◌, ℕ, IsTrue, IfSome, Option, Some, None, map, string_bytes};
 ghost use Rattle.rm_types.specs.declared.numbers.TheConstants.{MAX_PAGES};
+ghost use Rattle.rm_types.specs.declared.areas.Area.{Area as Areas};
 ghost use Rattle.rm_outside.specs.Faults.{Rises};
 ghost use Rattle.rmtool.specs.declared.commands.Command.{Command as Commands};
 ghost use Rattle.rmtool.specs.Commands.{IsCommand, Names, TakesScript, HasScript};
 ghost use Rattle.rmtool.specs.Reading.{IsReadToEnd};
 ghost use Rattle.rmtool.specs.Told.{Owes, Answers, Tells};
-ghost use Rattle.rmtool.specs.Plain.{PlainDue, IsComplete};
+ghost use Rattle.rmtool.specs.Plain.{PlainDue};
+ghost use Rattle.rmtool.specs.Complete.{EndsRight};
 ghost use Rattle.rmtool.specs.Due.{DueFor, AsksRight};
 
 use crate::commands::{Command, command_of};
@@ -108,8 +110,10 @@ pub fn run_command<V: Volume, S: Source, K: Sink>(
         (V.moment volume.old) (V.moment volume.new) (V.left_since volume.old) (V.left_since volume.new)
         (λ area. Rises (V.faults volume.old area) (V.faults volume.new area)))
         (K.taken out.old) (K.taken out.new) (Rises (K.faults out.old) (K.faults out.new)) result }
-    ensures complete { IsCommand (map string_bytes words.now) Command.Plain → IsComplete (S.left script.old)
-        (Rises (S.faults script.old) (S.faults script.new)) (Rises (K.faults out.old) (K.faults out.new)) result }
+    // Where nothing fails, a right script over a right volume is done, but for want of memory, log room or ids.
+    ensures complete { (command : Option Commands) × Names (map string_bytes words.now) command
+        × ((Rises (S.faults script.old) (S.faults script.new) → ⊥) → (Rises (K.faults out.old) (K.faults out.new) → ⊥) → ((area : Areas) → Rises (V.faults volume.old area) (V.faults volume.new area) → ⊥)
+        → EndsRight command (S.left script.old) (IsTrue V.tells) (V.content volume.old) result) }
 
     // A script that was done was read to its end, and without the words for it nothing is read.
     ensures to_end { result ≡ Status.Done → HasScript (map string_bytes words.now) → IsReadToEnd (S.left script.old) (S.left script.new) }

@@ -13,7 +13,7 @@ ghost use Rattle.rmtool.specs.Reading.{IsReadToEnd};
 ghost use Rattle.rmtool.specs.Running.{Moves};
 ghost use Rattle.rmtool.specs.Told.{Owes};
 ghost use Rattle.rmtool.specs.Turns.{RunText, unfinished_of, LinesDue, TurnsDue};
-ghost use Rattle.rmtool.specs.Turning.{LeavesRun, Turned, Gathers};
+ghost use Rattle.rmtool.specs.Turning.{used_by, LeavesRun, Turned, Gathers};
 
 use crate::reading::read_script;
 use crate::statuses::Status;
@@ -79,11 +79,11 @@ fn do_turns<V: Volume, K: Sink>(
     requires limit { engine.old.log.limit ≡ MAX_LOG }
     requires empty { text.old.items ≡ [] }
 
-    ensures ok { OnOk result (Turned engine.old.session engine.new.session lines.now
+    ensures ok { OnOk result (Turned engine.old engine.new lines.now
         (λ done replies. (next : Option Lines) → LeavesRun engine.old (V.may_leave volume.old) (V.may_leave volume.new) (V.moment volume.old) (V.moment volume.new) (V.left_since volume.old) (V.left_since volume.new) done replies next)
         (K.taken out.old) (K.taken out.new) text.new.items) }
     ensures ready { OnOk result (IsReady engine.new.session.core engine.new.log engine.new.inserts) }
-    ensures err { IfErr result (λ status. Gathers (RunText engine.old.session lines.now
+    ensures err { IfErr result (λ status. Gathers (RunText engine.old.session (used_by engine.old) lines.now
         (LeavesRun engine.old (V.may_leave volume.old) (V.may_leave volume.new) (V.moment volume.old) (V.moment volume.new) (V.left_since volume.old) (V.left_since volume.new))
         (λ area. Rises (V.faults volume.old area) (V.faults volume.new area)))
         (K.taken out.old) (K.taken out.new) (Rises (K.faults out.old) (K.faults out.new)) status text.new.items) }
@@ -111,7 +111,7 @@ fn do_session<V: Volume, K: Sink>(
     requires limit { engine.old.log.limit ≡ MAX_LOG }
     requires empty { text.old.items ≡ [] }
 
-    ensures gathers { Gathers (RunText engine.old.session lines.now
+    ensures gathers { Gathers (RunText engine.old.session (used_by engine.old) lines.now
         (LeavesRun engine.old (V.may_leave volume.old) (V.may_leave volume.new) (V.moment volume.old) (V.moment volume.new) (V.left_since volume.old) (V.left_since volume.new))
         (λ area. Rises (V.faults volume.old area) (V.faults volume.new area)))
         (K.taken out.old) (K.taken out.new) (Rises (K.faults out.old) (K.faults out.new)) result text.new.items }

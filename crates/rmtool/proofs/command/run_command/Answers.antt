@@ -1,5 +1,6 @@
 use Rattle.rm_outside.proofs.FaultLemmas.{Rises-later, Rises-before}
-use Rattle.rmtool.proofs.CommandLemmas.{takes_script, has_script, names_plain_or_none, named_complete}
+use Rattle.rmtool.proofs.CommandLemmas.{takes_script, has_script, names_plain_or_none}
+use Rattle.rmtool.proofs.CompleteLemmas.{ends_right}
 use Rattle.rmtool.proofs.ToldLemmas.{owes_later, tells_later, answers_from_tells, told_done}
 use Rattle.rmtool.proofs.command.run_command.Goals as goal
 
@@ -14,7 +15,11 @@ returns-clause-answers g c = (
 
 pub returns-clause-complete : goal.returns-clause-complete
 unfolding returns-clause-answers
-returns-clause-complete g c = λ is. named_complete _ _ _ _ _ _ _ _ _ _ _ _ _ _ _ _ _ c.command_of-command.ensures is (returns-clause-answers g c).2
+returns-clause-complete g c = (
+  c.command_of-command.result,
+  c.command_of-command.ensures,
+  ends_right _ _ _ _ _ _ _ _ _ _ _ _ _ _ _ _ (returns-clause-answers g c).2,
+)
 
 pub returns-clause-to_end : goal.returns-clause-to_end
 returns-clause-to_end g c = λ done is. c.do_command-status.ensures.to_end (told_done _ _ _ _ _ c.tell.ensures.told done) (takes_script _ _ c.command_of-command.ensures is)

@@ -5,7 +5,7 @@ use Rattle.rm_outside.specs.Faults.{Rises}
 use Rattle.rm_outside.proofs.FaultLemmas.{Rises-before, Rises-later}
 use Rattle.rmtool.specs.declared.statuses.Status.{Status}
 use Rattle.rmtool.specs.Turns.{RunText, LinesDue}
-use Rattle.rmtool.specs.Turning.{LeavesRun}
+use Rattle.rmtool.specs.Turning.{used_by, LeavesRun}
 use Rattle.rmtool.proofs.OpenedLemmas.{lines_due, owes_unopened, owes_sunk, owes_flushed, owes_stopped}
 use Rattle.rmtool.proofs.turns.do_lines.Goals as goal
 
@@ -35,7 +35,7 @@ returns-then-is_sink-clause-owes g c =
     let due = lines_due told content left half_left leaves before mid now past half since risen later c.args.lines.now pages c.in-Ok.opened.next c.in-Ok.opened.log c.in-Ok.opened.report.records engine opening.opened
     c.new-engine.ensures.session c.new-engine.ensures.log c.new-engine.ensures.under c.new-engine.ensures.inserts opening.synced opening.reads.time
     (λ area rose. Rises-before _ _ _ (opening.reads.kept area) rose) in
-    let Due : Status → List ℕ → Type 0 = RunText engine.session c.args.lines.now (LeavesRun engine half_left leaves mid now half since) risen in
+    let Due : Status → List ℕ → Type 0 = RunText engine.session (used_by engine) c.args.lines.now (LeavesRun engine half_left leaves mid now half since) risen in
     let More : Status → List ℕ → Type 0 = LinesDue told content left leaves before now past since later c.args.lines.now in
     let gathers = c.do_session-status.ensures.gathers in
     owes_sunk Due More _ _ _ _ c.do_session-status.result _ due (λ failed. failed) gathers (sym c.is_sink.ensures ∙ c.if-is_sink.true)
@@ -62,7 +62,7 @@ returns-in-Ok-flush-clause-owes g c =
     let due = lines_due told content left half_left leaves before mid now past half since risen later c.args.lines.now pages c.in-Ok.opened.next c.in-Ok.opened.log c.in-Ok.opened.report.records engine opening.opened
     c.new-engine.ensures.session c.new-engine.ensures.log c.new-engine.ensures.under c.new-engine.ensures.inserts opening.synced opening.reads.time
     (λ area rose. Rises-before _ _ _ (opening.reads.kept area) rose) in
-    let Due : Status → List ℕ → Type 0 = RunText engine.session c.args.lines.now (LeavesRun engine half_left leaves mid now half since) risen in
+    let Due : Status → List ℕ → Type 0 = RunText engine.session (used_by engine) c.args.lines.now (LeavesRun engine half_left leaves mid now half since) risen in
     let More : Status → List ℕ → Type 0 = LinesDue told content left leaves before now past since later c.args.lines.now in
     let gathers = c.do_session-status.ensures.gathers in
     let moves = rw c.in-Ok-flush.ensures.empty at c.in-Ok-flush.ensures.ok in
@@ -90,7 +90,7 @@ returns-clause-owes g c =
     let due = lines_due told content left half_left leaves before mid now past half since risen later c.args.lines.now pages c.in-Ok.opened.next c.in-Ok.opened.log c.in-Ok.opened.report.records engine opening.opened
     c.new-engine.ensures.session c.new-engine.ensures.log c.new-engine.ensures.under c.new-engine.ensures.inserts opening.synced opening.reads.time
     (λ area rose. Rises-before _ _ _ (opening.reads.kept area) rose) in
-    let Due : Status → List ℕ → Type 0 = RunText engine.session c.args.lines.now (LeavesRun engine half_left leaves mid now half since) risen in
+    let Due : Status → List ℕ → Type 0 = RunText engine.session (used_by engine) c.args.lines.now (LeavesRun engine half_left leaves mid now half since) risen in
     let More : Status → List ℕ → Type 0 = LinesDue told content left leaves before now past since later c.args.lines.now in
     let gathers = c.do_session-status.ensures.gathers in
     let err = c.in-Err-flush.ensures.err in

@@ -8,8 +8,10 @@ use Rattle.rm_types.specs.declared.areas.Area.TheVariants.{Log}
 use Rattle.rm_types.specs.declared.lines.Line.{Line}
 use Rattle.rm_outside.specs.Faults.{Rises}
 use Rattle.rm_outside.proofs.FaultLemmas.{Rises-before}
-use Rattle.rmtool.specs.Turning.{StandsBehind, LeavesRun, Turned}
-use Rattle.rmtool.proofs.TurnLemmas.{turned_none, turned_leaves, turned_line, gathers_turn, gathers_of_reply}
+use Rattle.rm_engine.specs.Numbers.{LacksRoom}
+use Rattle.rm_engine.specs.Runs.{HasLogRoom}
+use Rattle.rmtool.specs.Turning.{used_by, StandsBehind, LeavesRun, Turned}
+use Rattle.rmtool.proofs.TurnLemmas.{Does, turned_none, turned_leaves, turned_line, gathers_turn, gathers_of_reply}
 use Rattle.rmtool.proofs.StandLemmas.{stands_none, stands_more, leaves_now, leaves_failed}
 use Rattle.rmtool.proofs.turns.do_turns.Goals as goal
 
@@ -41,7 +43,7 @@ returns-in_err-reply-clause-err g c =
     let now = V.moment c.turn.new.volume in
     let since = V.left_since c.turn.new.volume in
     let is_next : slice_get c.args.lines.now c.loop-line.line-index ≡ Some asked = slice_get_read c.args.lines.now (length c.args.lines.now) c.loop-line.line-index asked refl (omega arith) c.line-item.is in
-    let turned = turned_leaves first.session here.session done
+    let turned = turned_leaves first here done
     (StandsBehind first here left leaves before mid past half) (λ lines replies. LeavesRun first left later before now past since lines replies (slice_get c.args.lines.now c.loop-line.line-index))
     (g.K.Sink.taken c.args.out.now) (g.K.Sink.taken c.loop-line.out) c.loop-line.text.items
     (λ replies stands. subst (λ (next : Option Line). LeavesRun first left later before now past since done replies next) (sym is_next)
@@ -50,9 +52,9 @@ returns-in_err-reply-clause-err g c =
     c.turn.ensures.any_moment))
     c.loop-line.invariant.turned in
     let p = err_from_is_err_and c.from_residual.result c.from_residual.ensures.1 in
-    rw (p.1, p.2) (gathers_turn first.session c.args.lines.now (LeavesRun first left later before now past since) (λ area. Rises (V.faults c.args.volume.now area) (V.faults c.turn.new.volume area)) _
-    (g.K.Sink.taken c.args.out.now) (g.K.Sink.taken c.loop-line.out) here.session c.loop-line.line-index c.loop-line.text.items turned asked is_next here.log here.inserts c.loop-line.invariant.limit c.in_err-reply.field-0.0
-    (λ end same. c.turn.ensures.full end (c.in_err-reply.was ∙ ap Err same))
+    rw (p.1, p.2) (gathers_turn first c.args.lines.now (LeavesRun first left later before now past since) (λ area. Rises (V.faults c.args.volume.now area) (V.faults c.turn.new.volume area)) _
+    (g.K.Sink.taken c.args.out.now) (g.K.Sink.taken c.loop-line.out) here c.loop-line.line-index c.loop-line.text.items turned asked is_next c.in_err-reply.field-0.0
+    (λ end same. subst (λ (limit : ℕ). LacksRoom limit here.session.core (used_by here) asked end) c.loop-line.invariant.limit (c.turn.ensures.full end (c.in_err-reply.was ∙ ap Err same)))
     (λ last same. c.turn.ensures.spent last (c.in_err-reply.was ∙ ap Err same))
     (λ f same. let why = c.turn.ensures.cause f (c.in_err-reply.was ∙ ap Err same) in (why.0, Rises-before _ _ _ (c.loop-line.invariant.counts Log) why.1)))
 
@@ -75,12 +77,17 @@ returns-in_err-tell_reply-clause-err g c =
     let now = V.moment c.turn.new.volume in
     let since = V.left_since c.turn.new.volume in
     let turned = c.loop-line.invariant.turned in
+    let does : Does here asked told next = record {
+      step = c.in_ok-reply.ensures.step;
+      room = subst (λ (limit : ℕ). HasLogRoom limit here.session.core (used_by here) asked) c.loop-line.invariant.limit c.in_ok-reply.ensures.room;
+      uses = c.in_ok-reply.ensures.used;
+    } in
     let stands = stands_more first here left leaves before mid past half done turned.replies turned.leaves next later now since asked told c.in_ok-reply.ensures.step c.in_ok-reply.ensures.at c.turn.ensures.any_moment in
     let at = ap (λ (line : Line). done ++ line ∷ []) c.line-item.is ∙ sym (take_more c.args.lines.now c.loop-line.line-index asked (omega arith)) in
     let p = err_from_is_err_and c.from_residual-in_err-tell_reply.result c.from_residual-in_err-tell_reply.ensures.1 in
-    rw (p.1, p.2) (gathers_of_reply first.session c.args.lines.now (LeavesRun first left later before now past since) _ _
+    rw (p.1, p.2) (gathers_of_reply first c.args.lines.now (LeavesRun first left later before now past since) _ _
     (g.K.Sink.taken c.args.out.now) (g.K.Sink.taken c.loop-line.out) (g.K.Sink.taken c.tell_reply.new.out)
-    (StandsBehind first here left leaves before mid past half) here.session next.session c.loop-line.line-index asked told c.loop-line.text.items c.tell_reply.new.text.items turned c.in_ok-reply.ensures.step
+    (StandsBehind first here left leaves before mid past half) here next c.loop-line.line-index asked told c.loop-line.text.items c.tell_reply.new.text.items turned does
     at
     (leaves_now first next left later before now past since (done ++ asked ∷ []) (turned.replies ++ told ∷ []) stands (slice_get c.args.lines.now (c.loop-line.line-index + 1)))
     c.in_err-tell_reply.field-0.0 c.in_err-tell_reply.ensures.errors
@@ -106,12 +113,17 @@ loop-line-preserved g c =
     let now = V.moment c.turn.new.volume in
     let since = V.left_since c.turn.new.volume in
     let turned = c.loop-line.invariant.turned in
+    let does : Does here asked told next = record {
+      step = c.in_ok-reply.ensures.step;
+      room = subst (λ (limit : ℕ). HasLogRoom limit here.session.core (used_by here) asked) c.loop-line.invariant.limit c.in_ok-reply.ensures.room;
+      uses = c.in_ok-reply.ensures.used;
+    } in
     let stands = stands_more first here left leaves before mid past half done turned.replies turned.leaves next later now since asked told c.in_ok-reply.ensures.step c.in_ok-reply.ensures.at c.turn.ensures.any_moment in
     let at = ap (λ (line : Line). done ++ line ∷ []) c.line-item.is ∙ sym (take_more c.args.lines.now c.loop-line.line-index asked (omega arith)) in
-    let longer = turned_line first.session here.session next.session done asked told (StandsBehind first here left leaves before mid past half) (StandsBehind first next left later before now past since)
-    (g.K.Sink.taken c.args.out.now) (g.K.Sink.taken c.loop-line.out) c.loop-line.text.items turned c.in_ok-reply.ensures.step stands (g.K.Sink.taken c.tell_reply.new.out) c.tell_reply.new.text.items c.in_ok-tell_reply.ensures.ok in
+    let longer = turned_line first here next done asked told (StandsBehind first here left leaves before mid past half) (StandsBehind first next left later before now past since)
+    (g.K.Sink.taken c.args.out.now) (g.K.Sink.taken c.loop-line.out) c.loop-line.text.items turned does stands (g.K.Sink.taken c.tell_reply.new.out) c.tell_reply.new.text.items c.in_ok-tell_reply.ensures.ok in
     record {
-      turned = subst (λ (lines : List Line). Turned first.session next.session lines (StandsBehind first next left later before now past since) (g.K.Sink.taken c.args.out.now) (g.K.Sink.taken c.tell_reply.new.out) c.tell_reply.new.text.items) at longer;
+      turned = subst (λ (lines : List Line). Turned first next lines (StandsBehind first next left later before now past since) (g.K.Sink.taken c.args.out.now) (g.K.Sink.taken c.tell_reply.new.out) c.tell_reply.new.text.items) at longer;
       ready = c.in_ok-reply.ensures.ready;
       durable = c.in_ok-reply.ensures.durable;
       limit = c.in_ok-reply.ensures.limit ∙ c.loop-line.invariant.limit;
@@ -133,6 +145,6 @@ returns-clause-ok g c =
     let since = V.left_since c.loop-line.volume in
     let all : c.loop-line.line-index ≡ length c.args.lines.now = omega arith in
     let whole : take c.loop-line.line-index c.args.lines.now ≡ c.args.lines.now = ap (λ (n : ℕ). take n c.args.lines.now) all ∙ take-length c.args.lines.now in
-    let turned = subst (λ (lines : List Line). Turned first.session here.session lines (StandsBehind first here left leaves before now past since) (g.K.Sink.taken c.args.out.now) (g.K.Sink.taken c.loop-line.out) c.loop-line.text.items) whole c.loop-line.invariant.turned in
-    turned_leaves first.session here.session c.args.lines.now (StandsBehind first here left leaves before now past since) (λ lines replies. (next : Option Line) → LeavesRun first left leaves before now past since lines replies next)
+    let turned = subst (λ (lines : List Line). Turned first here lines (StandsBehind first here left leaves before now past since) (g.K.Sink.taken c.args.out.now) (g.K.Sink.taken c.loop-line.out) c.loop-line.text.items) whole c.loop-line.invariant.turned in
+    turned_leaves first here c.args.lines.now (StandsBehind first here left leaves before now past since) (λ lines replies. (next : Option Line) → LeavesRun first left leaves before now past since lines replies next)
     (g.K.Sink.taken c.args.out.now) (g.K.Sink.taken c.loop-line.out) c.loop-line.text.items (λ replies stands next. leaves_now first here left leaves before now past since c.args.lines.now replies stands next) turned

@@ -10,7 +10,7 @@ use Rattle.rmtool.proofs.turns.do_turns.Given as goal
 -- the lines so far are done, their replies are in the sink and in the buffer, and the session stands behind them
 abbrev pub invariant-loop-line : goal.invariant-loop-line
 invariant-loop-line g l = record {
-  turned : Turned l.initial.engine.session l.engine.session (take l.line-index l.lines)
+  turned : Turned l.initial.engine l.engine (take l.line-index l.lines)
       (StandsBehind l.initial.engine l.engine (g.V.Volume.may_leave l.initial.volume) (g.V.Volume.may_leave l.volume) (g.V.Volume.moment l.initial.volume) (g.V.Volume.moment l.volume) (g.V.Volume.left_since l.initial.volume) (g.V.Volume.left_since l.volume))
       (g.K.Sink.taken l.initial.out) (g.K.Sink.taken l.out) l.text.items;
   ready : IsReady l.engine.session.core l.engine.log l.engine.inserts;

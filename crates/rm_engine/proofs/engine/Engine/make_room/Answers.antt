@@ -9,3 +9,6 @@ returns-in-Begin-clause-any_moment g c pages count rows at =
 pub returns-in-Read-clause-any_moment : goal.returns-in-Read-clause-any_moment
 returns-in-Read-clause-any_moment g c pages count rows at =
     started _ _ _ (λ d since. holds_now pages count rows _ _ _ _ _ at d (g.met.V.Volume.only_now c.args.volume.now d since))
+
+pub returns-in-Insert-clause-log : goal.returns-in-Insert-clause-log
+returns-in-Insert-clause-log g c = rw c.in-Insert.is (rw c.as_slice.ensures.value at c.room_to_insert.ensures.log)
