@@ -10,3 +10,4 @@ pub mod Rules
 pub mod Undoing
 pub mod Literal
 pub mod Meaning
+pub mod Batched

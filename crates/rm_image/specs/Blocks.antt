@@ -1,0 +1,57 @@
+-- What a block of the areas Data and Space stands for.
+use Rattle.std.specs.Prelude.{◌≡◌, ◌≢◌, ℕ, ◌+◌, ◌-◌, ◌*◌, ◌/◌, ◌%◌, ◌^◌, ◌≤◌, ◌<◌, List, [], length, slice_index, ◌⊎◌}
+use Rattle.std.specs.Int.{w16, w64, to_be_bytes}
+use Rattle.rm_types.specs.declared.numbers.TheConstants.{MAX_SLOT}
+use Rattle.rm_types.specs.declared.rows.TheConstants.{MAX_ROW}
+use Rattle.rm_types.specs.declared.slots.Slot.{Slot}
+use Rattle.rm_types.specs.declared.slots.Slot.TheVariants.{Vacant, Row}
+use Rattle.rm_types.specs.declared.slots.TheConstants.{SLOT_ENTRY}
+use Rattle.rm_outside.specs.Images.{Bytes, Shows}
+use Rattle.rm_history.specs.declared.TheConstants.{BLOCK_PAGES}
+use Rattle.rm_history.specs.Contents.{slot_at}
+use Rattle.rm_image.specs.declared.TheConstants.{BLOCK_SIZE, LSN_AT, COUNT_AT, SLOTS_AT, FORM_AT, ENTRIES_AT, ENTRIES_IN_BYTE}
+
+-- where the entry of a slot stands in its block: an offset in two bytes, and a length in two
+abbrev pub slot_entry_at : ℕ → ℕ
+slot_entry_at number = SLOTS_AT + SLOT_ENTRY * number
+
+-- the row begins there: behind the directory of so many slots, and inside of the block
+pub record IsRowAt (count at : ℕ) (row : List ℕ) : Type 0 where
+  pub behind : slot_entry_at count ≤ at
+  pub short : length row ≤ MAX_ROW
+  pub inside : at + length row ≤ BLOCK_SIZE
+
+-- a slot, one of so many, as it stands in the block that begins at this offset: without a row both numbers are 0
+abbrev pub HasSlot : Bytes → ℕ → ℕ → ℕ → Slot → ℕ → Type 0
+HasSlot area block count number Vacant at = (at ≡ 0) × Shows area (block + slot_entry_at number) (to_be_bytes w16 0) × Shows area (block + slot_entry_at number + 2) (to_be_bytes w16 0)
+HasSlot area block count number (Row row) at = (at ≢ 0) × IsRowAt count at row × Shows area (block + slot_entry_at number) (to_be_bytes w16 at)
+    × Shows area (block + slot_entry_at number + 2) (to_be_bytes w16 (length row)) × Shows area (block + at) row
+
+-- two rows that are not empty have no byte in common
+abbrev pub AreApart : ℕ → Slot → ℕ → Slot → Type 0
+AreApart a (Row first) b (Row second) = (length first ≡ 0) ⊎ ((length second ≡ 0) ⊎ ((a + length first ≤ b) ⊎ (b + length second ≤ a)))
+AreApart a Vacant b other = Unit {0}
+AreApart a (Row first) b Vacant = Unit {0}
+
+-- The block at this offset of the area stands for the LSN and the slots: some placing of the rows is there.
+pub record IsDataBlock (area : Bytes) (block lsn : ℕ) (slots : List Slot) : Type 0 where
+  pub version : Shows area (block + LSN_AT) (to_be_bytes w64 lsn)
+  pub count : Shows area (block + COUNT_AT) (to_be_bytes w16 (length slots))
+  pub few : length slots ≤ MAX_SLOT + 1
+  pub places : ℕ → ℕ
+  pub each : (number : ℕ) → number < length slots → HasSlot area block (length slots) number (slot_at slots number) (places number)
+  pub apart : (a b : ℕ) → a < b → b < length slots → AreApart (places a) (slot_at slots a) (places b) (slot_at slots b)
+
+-- the entry with this index in a byte of four of them
+abbrev pub entry_in : ℕ → ℕ → ℕ
+entry_in byte index = (byte / 4 ^ index) % 4
+
+-- the block at this offset of the area stands for the LSN and the categories of its pages
+pub record IsInventoryBlock (area : Bytes) (block lsn : ℕ) (entries : ℕ → ℕ) : Type 0 where
+  pub version : Shows area (block + LSN_AT) (to_be_bytes w64 lsn)
+  pub form : area (block + FORM_AT) ≡ 0
+  pub each : (index : ℕ) → index < BLOCK_PAGES → entry_in (area (block + ENTRIES_AT + index / ENTRIES_IN_BYTE)) (index % ENTRIES_IN_BYTE) ≡ entries index
+
+-- where a page's block is in area Data, and a block of the inventory in area Space
+abbrev pub block_at : ℕ → ℕ
+block_at number = BLOCK_SIZE * number

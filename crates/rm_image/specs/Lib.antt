@@ -1,0 +1,4 @@
+pub mod Blocks
+pub mod Whole
+pub mod Copies
+pub mod Room

@@ -1,0 +1,32 @@
+//! Which images of a volume are whole (docs/DEFINITIONS.md): what its blocks stand for, that each lacks no
+//! record from before its redo offset, which checkpoint and which copy the master may name.
+//!
+//! The crate has no code yet.
+#![tactic(auto)]
+
+/// The bytes of a block.
+pub const BLOCK_SIZE: u64 = 4_096;
+
+/// Where a block has its LSN, in eight bytes.
+pub const LSN_AT: u64 = 0;
+
+/// Where a data block has the number of its slots, in two bytes.
+pub const COUNT_AT: u64 = 8;
+
+/// Where a data block has its directory.
+pub const SLOTS_AT: u64 = 16;
+
+/// Where an inventory block has its form.
+pub const FORM_AT: u64 = 8;
+
+/// Where an inventory block has its entries.
+pub const ENTRIES_AT: u64 = 16;
+
+/// How many entries stand in a byte.
+pub const ENTRIES_IN_BYTE: u64 = 4;
+
+/// How many blocks of area Copy a half has.
+pub const HALF_BLOCKS: u64 = 16_400;
+
+/// The block of a half at which the copy of the inventory begins.
+pub const COPIED_SPACE: u64 = 16_384;
