@@ -4,3 +4,6 @@ pub mod Readings
 pub mod Undo
 pub mod Damages
 pub mod NeedLaws
+pub mod NetLists
+pub mod ChangeLsns
+pub mod NetLaws

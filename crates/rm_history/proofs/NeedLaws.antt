@@ -1,6 +1,6 @@
 -- The need of changes is the most that any of the last of them gave up more than they took.
-use Rattle.std.proofs.Common.{◌≡◌, ◌⊎◌, inl, inr, ℕ, ◌+◌, ◌-◌, ◌≤◌, List, [], ◌∷◌, ◌++◌, refl, sym, ap, ◌∙◌, arith}
-use Rattle.std.specs.Prelude.{reverse, sum_by}
+use Rattle.std.proofs.Common.{◌≡◌, inl, inr, ◌+◌, ◌≤◌, List, [], ◌∷◌, ◌++◌, refl, sym, ap, ◌∙◌, arith}
+use Rattle.std.specs.Prelude.{reverse}
 use Rattle.std.proofs.lemmas.Bool.{cases_lt}
 use Rattle.std.proofs.lemmas.List.{reverse-reverse, reverse-append}
 use Rattle.std.proofs.lemmas.List.Sums.{sum_by-cons}
@@ -8,7 +8,7 @@ use Rattle.std.proofs.lemmas.List.Sorted.{sum_by-IsPermutation, IsPermutation-re
 use Rattle.rm_model.specs.Pages.{row_length}
 use Rattle.rm_history.specs.Acts.{Change}
 use Rattle.rm_history.specs.Needs.{need_for}
-use Rattle.rm_history.specs.Literal.{lost, gained, IsNeed}
+use Rattle.rm_history.specs.Literal.{lost, gained}
 use Rattle.rm_history.specs.Meaning.{NeedIsTheMost}
 
 -- what changes gave up and took does not depend on their order
