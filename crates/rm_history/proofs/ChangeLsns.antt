@@ -30,6 +30,7 @@ logged_once (act ∷ before) lsn txn other in_order had other_had = logged_once 
 abbrev AreLogged : History → ℕ → List Change → Type 0
 AreLogged history txn listed = AllByRecursion (λ (c : Change). HasLogged history c.lsn txn) listed
 
+-- also for all but the newest
 older_are_logged : (history : History) (txn : ℕ) (listed : List Change) → AreLogged history txn listed → AreLogged history txn (older listed)
 older_are_logged history txn [] are = tt
 older_are_logged history txn (newest ∷ before) are = are.1

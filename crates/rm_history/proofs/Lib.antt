@@ -7,3 +7,4 @@ pub mod NeedLaws
 pub mod NetLists
 pub mod ChangeLsns
 pub mod NetLaws
+pub mod WinnerLaws

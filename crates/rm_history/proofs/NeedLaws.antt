@@ -15,6 +15,7 @@ use Rattle.rm_history.specs.Meaning.{NeedIsTheMost}
 lost-reverse : (changed : List Change) → lost (reverse changed) ≡ lost changed
 lost-reverse changed = sum_by-IsPermutation (λ (c : Change). row_length c.before) changed (reverse changed) (IsPermutation-reverse changed)
 
+-- nor does what they took
 gained-reverse : (changed : List Change) → gained (reverse changed) ≡ gained changed
 gained-reverse changed = sum_by-IsPermutation (λ (c : Change). row_length c.after) changed (reverse changed) (IsPermutation-reverse changed)
 
@@ -22,6 +23,7 @@ gained-reverse changed = sum_by-IsPermutation (λ (c : Change). row_length c.aft
 lost-cons : (newest : Change) (before : List Change) → lost (newest ∷ before) ≡ row_length newest.before + lost before
 lost-cons newest before = sum_by-cons (λ (c : Change). row_length c.before) newest before
 
+-- and took
 gained-cons : (newest : Change) (before : List Change) → gained (newest ∷ before) ≡ row_length newest.after + gained before
 gained-cons newest before = sum_by-cons (λ (c : Change). row_length c.after) newest before
 
@@ -49,6 +51,7 @@ greatest_more first before found = elim (cases_lt (need_for before + row_length 
   }
 ]
 
+-- the need of any changes is so much of some of their newest
 greatest : (changed : List Change) → Greatest changed
 greatest [] = record { newest = []; older = []; cut = refl; is = refl }
 greatest (first ∷ before) = greatest_more first before (greatest before)
@@ -57,6 +60,7 @@ greatest (first ∷ before) = greatest_more first before (greatest before)
 cut_newest : (changed front last : List Change) → reverse changed ≡ front ++ last → changed ≡ reverse last ++ reverse front
 cut_newest changed front last cut = sym (reverse-reverse changed) ∙ ap reverse cut ∙ reverse-append front last
 
+-- and the newest of them are the last ones in order
 cut_last : (changed newest older : List Change) → changed ≡ newest ++ older → reverse changed ≡ reverse older ++ reverse newest
 cut_last changed newest older cut = ap reverse cut ∙ reverse-append newest older
 
@@ -66,6 +70,7 @@ most_of_last changed front last cut =
     let most : lost (reverse last) ≤ need_for (reverse last ++ reverse front) + gained (reverse last) = most_of_newest (reverse last) (reverse front) in
     omega (arith, most, ap need_for (cut_newest changed front last cut), lost-reverse last, gained-reverse last)
 
+-- the need is the most of all that the last of them gave up more than they took
 pub need_is_the_most : NeedIsTheMost
 need_is_the_most changed =
     let found = greatest changed in

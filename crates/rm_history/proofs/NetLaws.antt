@@ -44,10 +44,11 @@ net_grows c before txn in_order mine =
     net_kept (changes c ∷ before) txn c before (eq-eqb c.txn txn mine) (not_undone_yet before c.lsn in_order.0 in_order.1.above)
     ∙ ap (λ (l : List Change). c ∷ l) (net_agree (changes c ∷ before) before txn before (λ lsn had. refl))
 
--- what is named now is undone, and what was undone before, still
+-- what is named now is undone
 named_now : (u : Undo) (log : History) (lsn : ℕ) → u.undone ≡ lsn → is_undone lsn (undoes u ∷ log) ≡ true
 named_now u log lsn named = or_left (eqb u.undone lsn) (is_undone lsn log) (eq-eqb u.undone lsn named)
 
+-- what was undone before is so still
 named_before : (u : Undo) (log : History) (lsn : ℕ) → is_undone lsn log ≡ true → is_undone lsn (undoes u ∷ log) ≡ true
 named_before u log lsn undone = or_right (eqb u.undone lsn) (is_undone lsn log) undone
 
@@ -120,6 +121,7 @@ pending_stays : (f : Finish) (before : History) (txn : ℕ) → ((f.txn ≡ txn)
     → cond (eqb f.txn txn) [] (pending_of before txn) ≡ pending_of before txn
 pending_stays f before txn unfinished = cond-false (eqb f.txn txn) [] (pending_of before txn) (ne_eqb f.txn txn (λ same. unfinished (inl same)))
 
+-- so behind all records, while it is not finished
 pub pending_is_net : (history : History) → IsInOrder history → (txn : ℕ) → (IsFinished history txn → ⊥) → IsNet history txn
 pending_is_net [] in_order txn unfinished = refl
 pending_is_net (changes c ∷ before) in_order txn unfinished = net_behind_change c before txn in_order (pending_is_net before in_order.0 txn unfinished)

@@ -22,16 +22,19 @@ reverse-cons newest before = reverse-append (newest ∷ []) before
 
 -- ---- what is undone
 
+-- three tests in two groupings
 or_group : (a b c : Bool) → a || (b || c) ≡ (a || b) || c
 or_group true b c = refl
 or_group false b c = refl
 
+-- a test that comes last, or first
 or_last : (a b : Bool) → a || (b || false) ≡ b || a
 or_last true true = refl
 or_last true false = refl
 or_last false true = refl
 or_last false false = refl
 
+-- no test more
 or_none : (a : Bool) → a || false ≡ a
 or_none true = refl
 or_none false = refl
@@ -43,6 +46,7 @@ is_undone-append lsn (undoes u ∷ first) second =
     ap (λ (b : Bool). eqb u.undone lsn || b) (is_undone-append lsn first second) ∙ or_group (eqb u.undone lsn) (is_undone lsn first) (is_undone lsn second)
 is_undone-append lsn (other ∷ first) second = is_undone-append lsn first second
 
+-- with a record more at the end
 is_undone-last : (lsn : ℕ) (newest : Act) (before : History) → is_undone lsn (reverse before) ≡ is_undone lsn before
     → is_undone lsn (reverse (newest ∷ before)) ≡ is_undone lsn before || is_undone lsn (newest ∷ [])
 is_undone-last lsn newest before same =
@@ -56,19 +60,21 @@ is_undone-reverse lsn (other ∷ before) = is_undone-last lsn other before (is_u
 
 -- ---- net changes
 
--- a change of the transaction that is not undone, one that is, and one of another transaction
+-- a change of the transaction that is not undone is among them
 pub net_kept : (log : History) (txn : ℕ) (c : Change) (acts : History) → eqb c.txn txn ≡ true → is_undone c.lsn log ≡ false
     → net_among log txn (changes c ∷ acts) ≡ c ∷ net_among log txn acts
 net_kept log txn c acts mine kept =
     let rest = net_among log txn acts in
     cond-true (eqb c.txn txn) (cond (is_undone c.lsn log) rest (c ∷ rest)) rest mine ∙ cond-false (is_undone c.lsn log) rest (c ∷ rest) kept
 
+-- one that is undone is not
 pub net_undone : (log : History) (txn : ℕ) (c : Change) (acts : History) → eqb c.txn txn ≡ true → is_undone c.lsn log ≡ true
     → net_among log txn (changes c ∷ acts) ≡ net_among log txn acts
 net_undone log txn c acts mine undone =
     let rest = net_among log txn acts in
     cond-true (eqb c.txn txn) (cond (is_undone c.lsn log) rest (c ∷ rest)) rest mine ∙ cond-true (is_undone c.lsn log) rest (c ∷ rest) undone
 
+-- nor is one of another transaction
 pub net_foreign : (log : History) (txn : ℕ) (c : Change) (acts : History) → eqb c.txn txn ≡ false → net_among log txn (changes c ∷ acts) ≡ net_among log txn acts
 net_foreign log txn c acts other =
     let rest = net_among log txn acts in
@@ -89,13 +95,14 @@ net_agree log other txn (changes c ∷ acts) agree =
     ]
 net_agree log other txn (act ∷ acts) agree = net_agree log other txn acts agree
 
--- the net changes of two parts
+-- a change in front of two parts
 net_pushed : (mine undone : Bool) (c : Change) (first second : List Change)
     → cond mine (cond undone (first ++ second) (c ∷ first ++ second)) (first ++ second) ≡ cond mine (cond undone first (c ∷ first)) first ++ second
 net_pushed true true c first second = refl
 net_pushed true false c first second = refl
 net_pushed false undone c first second = refl
 
+-- of two parts of a log, those of one and then those of the other
 net_among-append : (log : History) (txn : ℕ) (first second : History) → net_among log txn (first ++ second) ≡ net_among log txn first ++ net_among log txn second
 net_among-append log txn [] second = refl
 net_among-append log txn (changes c ∷ first) second =
@@ -103,12 +110,13 @@ net_among-append log txn (changes c ∷ first) second =
     ∙ net_pushed (eqb c.txn txn) (is_undone c.lsn log) c (net_among log txn first) (net_among log txn second)
 net_among-append log txn (other ∷ first) second = net_among-append log txn first second
 
--- those of one record
+-- at most one change in either order
 one_reversed : (mine undone : Bool) (c : Change) → reverse (cond mine (cond undone [] (c ∷ [])) []) ≡ cond mine (cond undone [] (c ∷ [])) []
 one_reversed true true c = refl
 one_reversed true false c = refl
 one_reversed false undone c = refl
 
+-- so the net changes of one record
 net_of_one : (log : History) (txn : ℕ) (act : Act) → reverse (net_among log txn (act ∷ [])) ≡ net_among log txn (act ∷ [])
 net_of_one log txn (changes c) = one_reversed (eqb c.txn txn) (is_undone c.lsn log) c
 net_of_one log txn other = refl
