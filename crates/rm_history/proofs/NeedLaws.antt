@@ -11,7 +11,7 @@ use Rattle.rm_history.specs.Needs.{need_for}
 use Rattle.rm_history.specs.Literal.{lost, gained}
 use Rattle.rm_history.specs.Meaning.{NeedIsTheMost}
 
--- what changes gave up and took does not depend on their order
+-- what changes gave up does not depend on their order
 lost-reverse : (changed : List Change) → lost (reverse changed) ≡ lost changed
 lost-reverse changed = sum_by-IsPermutation (λ (c : Change). row_length c.before) changed (reverse changed) (IsPermutation-reverse changed)
 
@@ -19,11 +19,11 @@ lost-reverse changed = sum_by-IsPermutation (λ (c : Change). row_length c.befor
 gained-reverse : (changed : List Change) → gained (reverse changed) ≡ gained changed
 gained-reverse changed = sum_by-IsPermutation (λ (c : Change). row_length c.after) changed (reverse changed) (IsPermutation-reverse changed)
 
--- one change more
+-- one change more adds what it gave up
 lost-cons : (newest : Change) (before : List Change) → lost (newest ∷ before) ≡ row_length newest.before + lost before
 lost-cons newest before = sum_by-cons (λ (c : Change). row_length c.before) newest before
 
--- and took
+-- and what it took
 gained-cons : (newest : Change) (before : List Change) → gained (newest ∷ before) ≡ row_length newest.after + gained before
 gained-cons newest before = sum_by-cons (λ (c : Change). row_length c.after) newest before
 
@@ -32,7 +32,7 @@ most_of_newest : (newest older : List Change) → lost newest ≤ need_for (newe
 most_of_newest [] older = omega arith
 most_of_newest (first ∷ newest) older = omega (arith, most_of_newest newest older, lost-cons first newest, gained-cons first newest)
 
--- some of the newest gave up so much
+-- the need, and some of the newest changes that gave up so much more than they took
 record Greatest (changed : List Change) : Type 0 where
   newest : List Change
   older : List Change

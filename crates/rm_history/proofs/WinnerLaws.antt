@@ -25,7 +25,8 @@ made-reverse rows (newest ∷ before) =
     ∙ ap (λ (r : Rows). with_slot r newest.rid newest.after) (made-reverse rows before)
 
 -- ---- winners
--- the winners of two parts of a log
+
+-- those of two parts of a log
 winners-append : (first second : History) → winners (first ++ second) ≡ winners first ++ winners second
 winners-append [] second = refl
 winners-append (commits f ∷ first) second = ap (λ (l : List ℕ). f.txn ∷ l) (winners-append first second)
