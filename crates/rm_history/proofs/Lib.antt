@@ -3,3 +3,8 @@ pub mod Settled
 pub mod Readings
 pub mod Undo
 pub mod Damages
+pub mod NeedLaws
+pub mod NetLists
+pub mod ChangeLsns
+pub mod NetLaws
+pub mod WinnerLaws
