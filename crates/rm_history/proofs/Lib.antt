@@ -3,3 +3,4 @@ pub mod Settled
 pub mod Readings
 pub mod Undo
 pub mod Damages
+pub mod Fronts
