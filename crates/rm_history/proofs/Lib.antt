@@ -4,3 +4,4 @@ pub mod Readings
 pub mod Undo
 pub mod Damages
 pub mod Fronts
+pub mod PendingSteps
