@@ -5,3 +5,4 @@ pub mod Undo
 pub mod Damages
 pub mod Fronts
 pub mod PendingSteps
+pub mod PendingLaws
