@@ -6,3 +6,6 @@ pub mod Damages
 pub mod Fronts
 pub mod PendingSteps
 pub mod PendingLaws
+pub mod LeadsBack
+pub mod ChainSteps
+pub mod Chains
