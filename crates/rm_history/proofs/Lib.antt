@@ -9,3 +9,4 @@ pub mod PendingLaws
 pub mod LeadsBack
 pub mod ChainSteps
 pub mod Chains
+pub mod Holding
