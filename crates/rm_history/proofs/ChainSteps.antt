@@ -17,6 +17,10 @@ use Rattle.rm_history.proofs.LeadsBack.{LeadsBack, same_way, unchanged_row, unch
 abbrev pub held_in : History → Rid → Slot
 held_in history rid = slot_at (page_of history rid.page) rid.slot
 
+-- one of the changes is on the row id
+abbrev IsAt : Rid → List Change → Type 0
+IsAt rid pending = IsChanged pending rid
+
 -- no transaction but this one has a change pending on the row id
 abbrev pub IsAlone : History → Rid → ℕ → Type 0
 IsAlone history rid txn = (other : ℕ) → (txn ≡ other → ⊥) → IsChanged (pending_of history other) rid → ⊥
@@ -56,15 +60,15 @@ leads-change c before may rid leads =
 
 alone-change : (c : Change) (before : History) (rid : Rid) → IsAlone (changes c ∷ before) rid c.txn → IsAlone before rid c.txn
 alone-change c before rid alone other different changed =
-    alone other different (subst (λ (l : List Change). IsChanged l rid) (sym (pending-change_other c before other different)) changed)
+    alone other different (subst (IsAt rid) (sym (pending-change_other c before other different)) changed)
 
 -- of another transaction, so on another row id
 changed_now : (c : Change) (before : History) (rid : Rid) → c.rid ≡ rid → IsChanged (pending_of (changes c ∷ before) c.txn) rid
-changed_now c before rid here = subst (λ (l : List Change). IsChanged l rid) (sym (pending-change c before)) (inl here)
+changed_now c before rid here = subst (IsAt rid) (sym (pending-change c before)) (inl here)
 
 still_changed : (c : Change) (before : History) (rid : Rid) (other : ℕ) → IsChanged (pending_of before other) rid → IsChanged (pending_of (changes c ∷ before) other) rid
 still_changed c before rid other changed =
-    cond_both (eqb c.txn other) (c ∷ pending_of before other) (pending_of before other) (λ l. IsChanged l rid) (λ is. inr changed) (λ is. changed)
+    cond_both (eqb c.txn other) (c ∷ pending_of before other) (pending_of before other) (IsAt rid) (λ is. inr changed) (λ is. changed)
 
 leads-change_other : (c : Change) (before : History) (rid : Rid) (txn : ℕ) → (c.txn ≡ txn → ⊥) → (c.rid ≡ rid → ⊥) → LeadsFrom before rid txn → LeadsFrom (changes c ∷ before) rid txn
 leads-change_other c before rid txn different elsewhere leads =
@@ -74,8 +78,8 @@ leads-change_other c before rid txn different elsewhere leads =
 pub all_lead-change : (c : Change) (before : History) → MayChange before c → AllLead before → AllLead (changes c ∷ before)
 all_lead-change c before may lead rid txn alone = elim (cases_eq c.txn txn) [
   | inl same ↦
-      let here : IsAlone (changes c ∷ before) rid c.txn = subst (λ (n : ℕ). IsAlone (changes c ∷ before) rid n) (sym same) alone in
-      subst (λ (n : ℕ). LeadsFrom (changes c ∷ before) rid n) same (leads-change c before may rid (lead rid c.txn (alone-change c before rid here)))
+      let here : IsAlone (changes c ∷ before) rid c.txn = subst (IsAlone (changes c ∷ before) rid) (sym same) alone in
+      subst (LeadsFrom (changes c ∷ before) rid) same (leads-change c before may rid (lead rid c.txn (alone-change c before rid here)))
   | inr different ↦
       let elsewhere : c.rid ≡ rid → ⊥ = λ here. alone c.txn (λ same. different (sym same)) (changed_now c before rid here) in
       let before_alone : IsAlone before rid txn = λ other apart changed. alone other apart (still_changed c before rid other changed) in
@@ -113,34 +117,34 @@ leads-undo u before may rid leads =
 
 alone-undo : (u : Undo) (before : History) (rid : Rid) → IsAlone (undoes u ∷ before) rid u.txn → IsAlone before rid u.txn
 alone-undo u before rid alone other different changed =
-    alone other different (subst (λ (l : List Change). IsChanged l rid) (sym (pending-undo_other u before other different)) changed)
+    alone other different (subst (IsAt rid) (sym (pending-undo_other u before other different)) changed)
 
 -- of another transaction: on the row id, which holds the committed row then, or elsewhere
 changed_last : (u : Undo) (before : History) (may : MayUndo before u) (rid : Rid) → u.rid ≡ rid → IsChanged (pending_of before u.txn) rid
-changed_last u before may rid here = subst (λ (l : List Change). IsChanged l rid) (sym may.is_last.1) (inl (sym may.rid_is ∙ here))
+changed_last u before may rid here = subst (IsAt rid) (sym may.is_last.1) (inl (sym may.rid_is ∙ here))
 
 leads-undo_here : (u : Undo) (before : History) → IsInOrder before → (may : MayUndo before u) (rid : Rid) (txn : ℕ) → (u.txn ≡ txn → ⊥) → u.rid ≡ rid → IsAlone (undoes u ∷ before) rid txn
     → AllLead before → LeadsFrom (undoes u ∷ before) rid txn
 leads-undo_here u before ordered may rid txn different here alone lead =
     let its : IsAlone before rid u.txn = alone_there before ordered rid u.txn (changed_last u before may rid here) in
     let back : LeadsBack rid (held_in (undoes u ∷ before) rid) may.is_last.0 (rows_of_log before rid) = leads_rest u before may rid (lead rid u.txn its) in
-    let none_left : IsChanged may.is_last.0 rid → ⊥ = λ changed. alone u.txn (λ same. different (sym same)) (subst (λ (l : List Change). IsChanged l rid) (sym (pending-undo_rest u before may)) changed) in
-    let none : IsChanged (pending_of (undoes u ∷ before) txn) rid → ⊥ = λ changed. its txn different (subst (λ (l : List Change). IsChanged l rid) (pending-undo_other u before txn different) changed) in
+    let none_left : IsChanged may.is_last.0 rid → ⊥ = λ changed. alone u.txn (λ same. different (sym same)) (subst (IsAt rid) (sym (pending-undo_rest u before may)) changed) in
+    let none : IsChanged (pending_of (undoes u ∷ before) txn) rid → ⊥ = λ changed. its txn different (subst (IsAt rid) (pending-undo_other u before txn different) changed) in
     unchanged_leads rid (held_in (undoes u ∷ before) rid) (pending_of (undoes u ∷ before) txn) (rows_of_log before rid) none
     (unchanged_row rid (held_in (undoes u ∷ before) rid) may.is_last.0 (rows_of_log before rid) none_left back)
 
 -- behind the undo its rest is pending
 changed_rest : (u : Undo) (before : History) (may : MayUndo before u) (rid : Rid) → (u.rid ≡ rid → ⊥) → IsChanged (may.last ∷ may.is_last.0) rid → IsChanged (pending_of (undoes u ∷ before) u.txn) rid
 changed_rest u before may rid elsewhere (inl here) = absurd (elsewhere (may.rid_is ∙ here))
-changed_rest u before may rid elsewhere (inr earlier) = subst (λ (l : List Change). IsChanged l rid) (sym (pending-undo_rest u before may)) earlier
+changed_rest u before may rid elsewhere (inr earlier) = subst (IsAt rid) (sym (pending-undo_rest u before may)) earlier
 
 still_pending : (u : Undo) (before : History) (may : MayUndo before u) (rid : Rid) (other : ℕ) → (u.rid ≡ rid → ⊥) → IsChanged (pending_of before other) rid → IsChanged (pending_of (undoes u ∷ before) other) rid
 still_pending u before may rid other elsewhere changed = elim (cases_eq u.txn other) [
   | inl same ↦
       let its : IsChanged (pending_of before u.txn) rid = subst (λ (n : ℕ). IsChanged (pending_of before n) rid) (sym same) changed in
       subst (λ (n : ℕ). IsChanged (pending_of (undoes u ∷ before) n) rid) same
-      (changed_rest u before may rid elsewhere (subst (λ (l : List Change). IsChanged l rid) may.is_last.1 its))
-  | inr different ↦ subst (λ (l : List Change). IsChanged l rid) (sym (pending-undo_other u before other different)) changed
+      (changed_rest u before may rid elsewhere (subst (IsAt rid) may.is_last.1 its))
+  | inr different ↦ subst (IsAt rid) (sym (pending-undo_other u before other different)) changed
 ]
 
 leads-undo_other : (u : Undo) (before : History) (rid : Rid) (txn : ℕ) → (u.txn ≡ txn → ⊥) → (u.rid ≡ rid → ⊥) → LeadsFrom before rid txn → LeadsFrom (undoes u ∷ before) rid txn
@@ -151,8 +155,8 @@ leads-undo_other u before rid txn different elsewhere leads =
 pub all_lead-undo : (u : Undo) (before : History) → IsInOrder before → MayUndo before u → AllLead before → AllLead (undoes u ∷ before)
 all_lead-undo u before ordered may lead rid txn alone = elim (cases_eq u.txn txn) [
   | inl same ↦
-      let here : IsAlone (undoes u ∷ before) rid u.txn = subst (λ (n : ℕ). IsAlone (undoes u ∷ before) rid n) (sym same) alone in
-      subst (λ (n : ℕ). LeadsFrom (undoes u ∷ before) rid n) same (leads-undo u before may rid (lead rid u.txn (alone-undo u before rid here)))
+      let here : IsAlone (undoes u ∷ before) rid u.txn = subst (IsAlone (undoes u ∷ before) rid) (sym same) alone in
+      subst (LeadsFrom (undoes u ∷ before) rid) same (leads-undo u before may rid (lead rid u.txn (alone-undo u before rid here)))
   | inr different ↦ elim (cases_rid u.rid rid) [
     | inl here ↦ leads-undo_here u before ordered may rid txn different here alone lead
     | inr elsewhere ↦
@@ -170,7 +174,7 @@ held_row f before rid lead alone = applied_leads (rows_of_log before) rid (held_
 -- of its own transaction
 leads-commit : (f : Finish) (before : History) (rid : Rid) → AllLead before → IsAlone (commits f ∷ before) rid f.txn → LeadsFrom (commits f ∷ before) rid f.txn
 leads-commit f before rid lead alone =
-    let before_alone : IsAlone before rid f.txn = λ other different changed. alone other different (subst (λ (l : List Change). IsChanged l rid) (sym (pending-commit_other f before other different)) changed) in
+    let before_alone : IsAlone before rid f.txn = λ other different changed. alone other different (subst (IsAt rid) (sym (pending-commit_other f before other different)) changed) in
     unchanged_leads rid (held_in before rid) (pending_of (commits f ∷ before) f.txn) (rows_of_log (commits f ∷ before) rid)
     (changed_none (pending_of (commits f ∷ before) f.txn) rid (pending-commit f before)) (held_row f before rid lead before_alone)
 
@@ -178,7 +182,7 @@ leads-commit f before rid lead alone =
 leads-commit_here : (f : Finish) (before : History) → IsInOrder before → (rid : Rid) (txn : ℕ) → (f.txn ≡ txn → ⊥) → IsChanged (pending_of before f.txn) rid → AllLead before → LeadsFrom (commits f ∷ before) rid txn
 leads-commit_here f before ordered rid txn different changed lead =
     let its : IsAlone before rid f.txn = alone_there before ordered rid f.txn changed in
-    let none : IsChanged (pending_of (commits f ∷ before) txn) rid → ⊥ = λ other. its txn different (subst (λ (l : List Change). IsChanged l rid) (pending-commit_other f before txn different) other) in
+    let none : IsChanged (pending_of (commits f ∷ before) txn) rid → ⊥ = λ other. its txn different (subst (IsAt rid) (pending-commit_other f before txn different) other) in
     unchanged_leads rid (held_in before rid) (pending_of (commits f ∷ before) txn) (rows_of_log (commits f ∷ before) rid) none (held_row f before rid lead its)
 
 leads-commit_other : (f : Finish) (before : History) (rid : Rid) (txn : ℕ) → (f.txn ≡ txn → ⊥) → (IsChanged (pending_of before f.txn) rid → ⊥) → LeadsFrom before rid txn → LeadsFrom (commits f ∷ before) rid txn
@@ -189,14 +193,14 @@ leads-commit_other f before rid txn different free leads =
 uncommitted : (f : Finish) (before : History) (rid : Rid) (other : ℕ) → (IsChanged (pending_of before f.txn) rid → ⊥) → IsChanged (pending_of before other) rid → IsChanged (pending_of (commits f ∷ before) other) rid
 uncommitted f before rid other free changed = elim (cases_eq f.txn other) [
   | inl same ↦ absurd (free (subst (λ (n : ℕ). IsChanged (pending_of before n) rid) (sym same) changed))
-  | inr different ↦ subst (λ (l : List Change). IsChanged l rid) (sym (pending-commit_other f before other different)) changed
+  | inr different ↦ subst (IsAt rid) (sym (pending-commit_other f before other different)) changed
 ]
 
 pub all_lead-commit : (f : Finish) (before : History) → IsInOrder before → AllLead before → AllLead (commits f ∷ before)
 all_lead-commit f before ordered lead rid txn alone = elim (cases_eq f.txn txn) [
   | inl same ↦
-      let here : IsAlone (commits f ∷ before) rid f.txn = subst (λ (n : ℕ). IsAlone (commits f ∷ before) rid n) (sym same) alone in
-      subst (λ (n : ℕ). LeadsFrom (commits f ∷ before) rid n) same (leads-commit f before rid lead here)
+      let here : IsAlone (commits f ∷ before) rid f.txn = subst (IsAlone (commits f ∷ before) rid) (sym same) alone in
+      subst (LeadsFrom (commits f ∷ before) rid) same (leads-commit f before rid lead here)
   | inr different ↦ elim (cases_changed (pending_of before f.txn) rid) [
     | inl changed ↦ leads-commit_here f before ordered rid txn different changed lead
     | inr free ↦
@@ -215,5 +219,5 @@ pending-ended f before txn may = elim (cases_eq f.txn txn) [
 
 pub all_lead-end : (f : Finish) (before : History) → MayEnd before f → AllLead before → AllLead (ends f ∷ before)
 all_lead-end f before may lead rid txn alone =
-    let before_alone : IsAlone before rid txn = λ other different changed. alone other different (subst (λ (l : List Change). IsChanged l rid) (sym (pending-ended f before other may)) changed) in
+    let before_alone : IsAlone before rid txn = λ other different changed. alone other different (subst (IsAt rid) (sym (pending-ended f before other may)) changed) in
     subst (λ (l : List Change). LeadsBack rid (held_in before rid) l (rows_of_log before rid)) (sym (pending-ended f before txn may)) (lead rid txn before_alone)
