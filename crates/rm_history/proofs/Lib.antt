@@ -8,3 +8,10 @@ pub mod NetLists
 pub mod ChangeLsns
 pub mod NetLaws
 pub mod WinnerLaws
+pub mod Fronts
+pub mod PendingSteps
+pub mod PendingLaws
+pub mod LeadsBack
+pub mod ChainSteps
+pub mod Chains
+pub mod Holding
