@@ -3,3 +3,5 @@ pub mod Settled
 pub mod Readings
 pub mod Undo
 pub mod Damages
+pub mod NeedSums
+pub mod UndoTheorem
