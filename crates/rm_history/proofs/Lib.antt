@@ -5,3 +5,4 @@ pub mod Undo
 pub mod Damages
 pub mod NeedSums
 pub mod UndoTheorem
+pub mod Rollbacks
