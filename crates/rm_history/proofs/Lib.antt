@@ -6,3 +6,4 @@ pub mod Damages
 pub mod NeedSums
 pub mod UndoTheorem
 pub mod Rollbacks
+pub mod AllPending
