@@ -7,3 +7,4 @@ pub mod NeedSums
 pub mod UndoTheorem
 pub mod Rollbacks
 pub mod AllPending
+pub mod Losers
