@@ -3,6 +3,13 @@ pub mod Settled
 pub mod Readings
 pub mod Undo
 pub mod Damages
+pub mod Fronts
+pub mod PendingSteps
+pub mod PendingLaws
+pub mod LeadsBack
+pub mod ChainSteps
+pub mod Chains
+pub mod Holding
 pub mod NeedSums
 pub mod UndoTheorem
 pub mod Rollbacks
