@@ -7,8 +7,9 @@ use Rattle.rm_model.specs.Pages.{used, row_length, set_slot}
 use Rattle.rm_model.proofs.Slots.{used-set_slot}
 use Rattle.rm_history.specs.Acts.{Change, Undo, History, changes, undoes}
 use Rattle.rm_history.specs.Contents.{slot_at, page_of}
-use Rattle.rm_history.specs.Pending.{pending_of}
+use Rattle.rm_history.specs.Pending.{older, pending_of}
 use Rattle.rm_history.specs.Needs.{on_page, need_for, need_of, sum_below, Fits}
+use Rattle.rm_history.proofs.PendingSteps.{pending-change, pending-change_other, pending-undo, pending-undo_other}
 
 -- ---- sums
 
@@ -70,30 +71,20 @@ need_for-elsewhere page last rest other = ap need_for (on_page-elsewhere page la
 
 -- ---- with one record more
 
--- behind a change its transaction has it pending, and no other one does
-pub pending_of-change : (before : History) (c : Change) → pending_of (changes c ∷ before) c.txn ≡ c ∷ pending_of before c.txn
-pending_of-change before c = rw (eq-eqb c.txn c.txn refl)
-
-pub pending_of-change_other : (before : History) (c : Change) (other : ℕ) → (c.txn ≡ other → ⊥) → pending_of (changes c ∷ before) other ≡ pending_of before other
-pending_of-change_other before c other differs = rw (ne_eqb c.txn other differs)
-
--- behind an undo its transaction has the older ones pending, and all others what they had
+-- behind an undo its transaction has the older ones pending
 pub pending_of-undo : (before : History) (u : Undo) (last : Change) (rest : List Change) → pending_of before u.txn ≡ last ∷ rest → pending_of (undoes u ∷ before) u.txn ≡ rest
-pending_of-undo before u last rest is = rw (eq-eqb u.txn u.txn refl, is)
-
-pub pending_of-undo_other : (before : History) (u : Undo) (other : ℕ) → (u.txn ≡ other → ⊥) → pending_of (undoes u ∷ before) other ≡ pending_of before other
-pending_of-undo_other before u other differs = rw (ne_eqb u.txn other differs)
+pending_of-undo before u last rest is = pending-undo u before ∙ ap older is
 
 -- what a transaction's undo needs behind a change of its own
 pub need_of-change : (before : History) (c : Change) (page : ℕ) → c.rid.page ≡ page
     → need_of (changes c ∷ before) c.txn page ≡ (need_of before c.txn page + row_length c.before) - row_length c.after
-need_of-change before c page here = ap (λ (all : List Change). need_for (on_page page all)) (pending_of-change before c) ∙ need_for-here page c (pending_of before c.txn) here
+need_of-change before c page here = ap (λ (all : List Change). need_for (on_page page all)) (pending-change c before) ∙ need_for-here page c (pending_of before c.txn) here
 
 pub need_of-change_elsewhere : (before : History) (c : Change) (page : ℕ) → (c.rid.page ≡ page → ⊥) → need_of (changes c ∷ before) c.txn page ≡ need_of before c.txn page
-need_of-change_elsewhere before c page other = ap (λ (all : List Change). need_for (on_page page all)) (pending_of-change before c) ∙ need_for-elsewhere page c (pending_of before c.txn) other
+need_of-change_elsewhere before c page other = ap (λ (all : List Change). need_for (on_page page all)) (pending-change c before) ∙ need_for-elsewhere page c (pending_of before c.txn) other
 
 pub need_of-change_other : (before : History) (c : Change) (other page : ℕ) → (c.txn ≡ other → ⊥) → need_of (changes c ∷ before) other page ≡ need_of before other page
-need_of-change_other before c other page differs = ap (λ (all : List Change). need_for (on_page page all)) (pending_of-change_other before c other differs)
+need_of-change_other before c other page differs = ap (λ (all : List Change). need_for (on_page page all)) (pending-change_other c before other differs)
 
 -- and behind an undo: the last change's need was no less than that of the older ones with the bytes that it gave up, without those
 -- that it took
@@ -110,4 +101,4 @@ need_of-undo_elsewhere before u last rest page is other =
     ∙ ap (λ (all : List Change). need_for (on_page page all)) (sym is)
 
 pub need_of-undo_other : (before : History) (u : Undo) (other page : ℕ) → (u.txn ≡ other → ⊥) → need_of (undoes u ∷ before) other page ≡ need_of before other page
-need_of-undo_other before u other page differs = ap (λ (all : List Change). need_for (on_page page all)) (pending_of-undo_other before u other differs)
+need_of-undo_other before u other page differs = ap (λ (all : List Change). need_for (on_page page all)) (pending-undo_other u before other differs)

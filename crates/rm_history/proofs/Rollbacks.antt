@@ -5,11 +5,13 @@ use Rattle.rm_history.specs.Acts.{Act, Change, Finish, History, ends, newest_lsn
 use Rattle.rm_history.specs.Contents.{page_of, entry_of}
 use Rattle.rm_history.specs.Pending.{pending_of, rows_of_log, IsFinished}
 use Rattle.rm_history.specs.Needs.{on_page, need_for, need_of, sum_below, Fits}
-use Rattle.rm_history.specs.Rules.{IsPendingOn, EntriesFollow, Follows, IsLegal}
+use Rattle.rm_history.specs.Rules.{MayEnd, IsPendingOn, EntriesFollow, Follows, IsLegal}
 use Rattle.rm_history.specs.Undoing.{AllUndone, Ended, RolledBack}
-use Rattle.rm_history.specs.Meaning.{NoUndoLacksRoom, RollbacksAreLegal}
+use Rattle.rm_history.specs.Meaning.{RollbacksAreLegal}
+use Rattle.rm_history.proofs.Fronts.{legal_is_in_order}
+use Rattle.rm_history.proofs.ChainSteps.{pending-ended}
 use Rattle.rm_history.proofs.NeedSums.{sum_below-same}
-use Rattle.rm_history.proofs.UndoTheorem.{legal_in_order, fits_in_order, entries_follow}
+use Rattle.rm_history.proofs.UndoTheorem.{fits_in_order, entries_follow, no_undo_lacks_room}
 
 -- ---- all of a transaction's changes are undone
 
@@ -22,14 +24,14 @@ pub record AreUndone (before : History) (txn : ℕ) (new : History) : Type 0 whe
   pub rows : rows_of_log new ≡ rows_of_log before
 
 -- its pending changes are undone, one after the other
-all_undone : NoUndoLacksRoom → (before new : History) (txn : ℕ) (all : List Change) → IsLegal before → (IsFinished before txn → ⊥) → pending_of before txn ≡ all
+all_undone : (before new : History) (txn : ℕ) (all : List Change) → IsLegal before → (IsFinished before txn → ⊥) → pending_of before txn ≡ all
     → AllUndone before all new → AreUndone before txn new
-all_undone room before new txn [] legal unfinished is undone =
+all_undone before new txn [] legal unfinished is undone =
     subst (λ (h : History). AreUndone before txn h) (sym undone)
     (record { legal = legal; none = is; others = λ other differs. refl; unfinished = unfinished; rows = refl })
-all_undone room before new txn (last ∷ rest) legal unfinished is undone =
-    let one = room before undone.0 txn last rest legal unfinished is undone.1 in
-    let more = all_undone room undone.0 new txn rest one.legal one.unfinished one.pending undone.2 in
+all_undone before new txn (last ∷ rest) legal unfinished is undone =
+    let one = no_undo_lacks_room before undone.0 txn last rest legal unfinished is undone.1 in
+    let more = all_undone undone.0 new txn rest one.legal one.unfinished one.pending undone.2 in
     record {
       legal = more.legal;
       none = more.none;
@@ -40,28 +42,21 @@ all_undone room before new txn (last ∷ rest) legal unfinished is undone =
 
 -- ---- a transaction ends that has nothing pending
 
--- no transaction has less pending for it
-pub pending_of-end : (before : History) (f : Finish) → pending_of before f.txn ≡ [] → (txn : ℕ) → pending_of (ends f ∷ before) txn ≡ pending_of before txn
-pending_of-end before f none txn = elim (cases_eq f.txn txn) [
-  | inl same ↦ rw (eq-eqb f.txn txn same) (sym (ap (pending_of before) (sym same) ∙ none))
-  | inr other ↦ rw (ne_eqb f.txn txn other)
-]
-
--- so each page still fits
-end_fits : (before : History) (f : Finish) → pending_of before f.txn ≡ [] → Fits before → Fits (ends f ∷ before)
-end_fits before f none fits page n =
+-- each page still fits: no transaction has less pending
+end_fits : (before : History) (f : Finish) → MayEnd before f → Fits before → Fits (ends f ∷ before)
+end_fits before f may fits page n =
     omega (
       arith,
       fits page n,
       sum_below-same (λ txn. need_of before txn page) (λ txn. need_of (ends f ∷ before) txn page) n
-          (λ txn below. ap (λ (all : List Change). need_for (on_page page all)) (pending_of-end before f none txn)),
+          (λ txn below. ap (λ (all : List Change). need_for (on_page page all)) (pending-ended f before txn may)),
     )
 
 -- and the inventory follows
-entries_follow_end : (before : History) (f : Finish) → pending_of before f.txn ≡ [] → EntriesFollow before → EntriesFollow (ends f ∷ before)
-entries_follow_end before f none follow page = elim (follow page) [
+entries_follow_end : (before : History) (f : Finish) → MayEnd before f → EntriesFollow before → EntriesFollow (ends f ∷ before)
+entries_follow_end before f may follow page = elim (follow page) [
   | inl right ↦ inl right
-  | inr pending ↦ inr (pending.0, λ empty. pending.1 (ap (on_page page) (sym (pending_of-end before f none pending.0)) ∙ empty))
+  | inr pending ↦ inr (pending.0, λ empty. pending.1 (ap (on_page page) (sym (pending-ended f before pending.0 may)) ∙ empty))
 ]
 
 -- the history in which a transaction has ended
@@ -74,22 +69,23 @@ pub record HasEnded (before : History) (txn : ℕ) (new : History) : Type 0 wher
 pub has_ended : (before new : History) (txn : ℕ) → IsLegal before → (IsFinished before txn → ⊥) → pending_of before txn ≡ [] → Ended before txn new → HasEnded before txn new
 has_ended before new txn legal unfinished none ended =
     let f : Finish = record { lsn = ended.lsn; txn = txn } in
+    let may : MayEnd before f = record { unfinished = unfinished; none = none } in
     subst (λ (h : History). HasEnded before txn h) (sym ended.new_is)
     (record {
       legal = (
         legal,
-        record { above = ended.above; may_come = record { unfinished = unfinished; none = none }; fits = end_fits before f none (fits_in_order before (legal_in_order before legal)) },
-        entries_follow_end before f none (entries_follow before legal),
+        record { above = ended.above; may_come = may; fits = end_fits before f may (fits_in_order before (legal_is_in_order before legal)) },
+        entries_follow_end before f may (entries_follow before legal),
       );
-      pending = pending_of-end before f none;
+      pending = λ any. pending-ended f before any may;
       finished = inl refl;
       rows = refl;
     })
 
 -- ---- the theorem
 
-pub rollbacks_are_legal : NoUndoLacksRoom → RollbacksAreLegal
-rollbacks_are_legal room before new txn legal unfinished back =
-    let undone : AreUndone before txn back.undone = all_undone room before back.undone txn (pending_of before txn) legal unfinished refl back.undoes_all in
+pub rollbacks_are_legal : RollbacksAreLegal
+rollbacks_are_legal before new txn legal unfinished back =
+    let undone : AreUndone before txn back.undone = all_undone before back.undone txn (pending_of before txn) legal unfinished refl back.undoes_all in
     let over : HasEnded back.undone txn new = has_ended back.undone new txn undone.legal undone.unfinished undone.none back.ends_it in
     (over.legal, over.finished, over.rows ∙ undone.rows)

@@ -10,7 +10,10 @@ use Rattle.rm_history.specs.Needs.{on_page, need_for, need_of, sum_below, Fits}
 use Rattle.rm_history.specs.Rules.{MayUndo, MayEnter, IsPendingOn, EntriesFollow, Follows, IsInOrder, IsLegal}
 use Rattle.rm_history.specs.Undoing.{category_after, entry_for, undo_for, Settles, Undone}
 use Rattle.rm_history.specs.Meaning.{IsUndone, NoUndoLacksRoom}
-use Rattle.rm_history.proofs.NeedSums.{sum_below-same, room_kept, used-inside, on_page-here, on_page-elsewhere, pending_of-undo, pending_of-undo_other, need_of-undo, need_of-undo_elsewhere, need_of-undo_other}
+use Rattle.rm_history.proofs.NeedSums.{sum_below-same, room_kept, used-inside, on_page-here, on_page-elsewhere, pending_of-undo, need_of-undo, need_of-undo_elsewhere, need_of-undo_other}
+use Rattle.rm_history.proofs.Fronts.{legal_is_in_order}
+use Rattle.rm_history.proofs.PendingSteps.{pending-undo_other}
+use Rattle.rm_history.proofs.Chains.{last_is_of, last_is_inside, last_is_held}
 
 -- ---- what is known of a legal history
 
@@ -22,11 +25,6 @@ sum_below-zero (suc n) = omega (arith, sum_below-zero n)
 pub fits_in_order : (history : History) → IsInOrder history → Fits history
 fits_in_order [] ordered = λ page n. omega (arith, sum_below-zero n)
 fits_in_order (act ∷ before) ordered = ordered.1.fits
-
--- a legal history is in order
-pub legal_in_order : (history : History) → IsLegal history → IsInOrder history
-legal_in_order [] legal = tt
-legal_in_order (act ∷ before) legal = (legal_in_order before legal.0, legal.1)
 
 -- the inventory of a legal history follows
 pub entries_follow : (history : History) → IsLegal history → EntriesFollow history
@@ -64,7 +62,7 @@ entry_comes : (before : History) (last : Change) (rest : List Change) (lsn : ℕ
 entry_comes before last rest lsn legal unfinished is other above = record {
   above = above;
   may_come = record { unfinished = unfinished; last = last; is_last = (rest, is); page_is = refl; differs = λ same. other (sym same); right = inr refl };
-  fits = fits_in_order before (legal_in_order before legal);
+  fits = fits_in_order before (legal_is_in_order before legal);
 }
 
 entered_by : (before settled : History) (last : Change) (rest : List Change) → IsLegal before → (IsFinished before last.txn → ⊥) → pending_of before last.txn ≡ last ∷ rest
@@ -86,13 +84,12 @@ entered_by before settled last rest legal unfinished is (inr differs) =
 -- ---- the compensation
 
 -- what is to be known of a transaction's newest pending change: its slot is inside of the directory, and holds what the change left
-pub record Stands (history : History) (txn : ℕ) (last : Change) : Type 0 where
-  pub of_it : last.txn ≡ txn
-  pub inside : last.rid.slot < length (page_of history last.rid.page)
-  pub holds : slot_at (page_of history last.rid.page) last.rid.slot ≡ last.after
+record Stands (history : History) (last : Change) : Type 0 where
+  inside : last.rid.slot < length (page_of history last.rid.page)
+  holds : slot_at (page_of history last.rid.page) last.rid.slot ≡ last.after
 
 -- on the change's page the undo gives up no more room than is kept for it
-room_for_undo : (before : History) (last : Change) (rest : List Change) (lsn page : ℕ) → pending_of before last.txn ≡ last ∷ rest → Stands before last.txn last → last.rid.page ≡ page
+room_for_undo : (before : History) (last : Change) (rest : List Change) (lsn page : ℕ) → pending_of before last.txn ≡ last ∷ rest → Stands before last → last.rid.page ≡ page
     → used (set_slot (page_of before page) last.rid.slot last.before) + need_of (undoes (undo_for lsn last) ∷ before) last.txn page
     ≤ used (page_of before page) + need_of before last.txn page
 room_for_undo before last rest lsn page is stands here =
@@ -102,7 +99,7 @@ room_for_undo before last rest lsn page is stands here =
     omega (arith, held, used-inside (page_of before page) last.rid.slot last.before there, need_of-undo before (undo_for lsn last) last rest page is here)
 
 -- so with the compensation each page fits
-undo_fits : (before : History) (last : Change) (rest : List Change) (lsn : ℕ) → pending_of before last.txn ≡ last ∷ rest → Stands before last.txn last → Fits before
+undo_fits : (before : History) (last : Change) (rest : List Change) (lsn : ℕ) → pending_of before last.txn ≡ last ∷ rest → Stands before last → Fits before
     → Fits (undoes (undo_for lsn last) ∷ before)
 undo_fits before last rest lsn is stands fits page n =
     let u : Undo = undo_for lsn last in
@@ -125,7 +122,7 @@ still_pending before last rest lsn page is other pending =
     let same : on_page page (pending_of (undoes u ∷ before) pending.0) ≡ on_page page (pending_of before pending.0) = elim (cases_eq last.txn pending.0) [
       | inl mine ↦ subst (λ (t : ℕ). on_page page (pending_of (undoes u ∷ before) t) ≡ on_page page (pending_of before t)) mine
           (ap (on_page page) (pending_of-undo before u last rest is) ∙ sym (on_page-elsewhere page last rest other) ∙ ap (on_page page) (sym is))
-      | inr others ↦ ap (on_page page) (pending_of-undo_other before u pending.0 others)
+      | inr others ↦ ap (on_page page) (pending-undo_other u before pending.0 others)
     ] in
     (pending.0, λ none. pending.1 (sym same ∙ none))
 
@@ -159,7 +156,7 @@ compensation_comes before last rest lsn unfinished is entered = record {
 
 -- of a change whose slot stands, undone in a history in which its page has the right entry
 undone_by : (before : History) (last : Change) (rest : List Change) (lsn : ℕ) → IsLegal before → (IsFinished before last.txn → ⊥) → pending_of before last.txn ≡ last ∷ rest
-    → Stands before last.txn last → entry_of before last.rid.page ≡ category_after before last → newest_lsn before < lsn
+    → Stands before last → entry_of before last.rid.page ≡ category_after before last → newest_lsn before < lsn
     → IsUndone before last.txn rest (undoes (undo_for lsn last) ∷ before)
 undone_by before last rest lsn legal unfinished is stands entered above = record {
   legal = (
@@ -167,29 +164,29 @@ undone_by before last rest lsn legal unfinished is stands entered above = record
     record {
       above = above;
       may_come = compensation_comes before last rest lsn unfinished is entered;
-      fits = undo_fits before last rest lsn is stands (fits_in_order before (legal_in_order before legal));
+      fits = undo_fits before last rest lsn is stands (fits_in_order before (legal_is_in_order before legal));
     },
     entries_follow_undo before last rest lsn is entered (entries_follow before legal),
   );
   pending = pending_of-undo before (undo_for lsn last) last rest is;
-  others = λ other differs. pending_of-undo_other before (undo_for lsn last) other (λ same. differs (sym same));
+  others = λ other differs. pending-undo_other (undo_for lsn last) before other (λ same. differs (sym same));
   unfinished = unfinished;
   rows = refl;
 }
 
 -- in a history in order each transaction's newest pending change stands
-abbrev pub NewestStand : Type 0
-NewestStand = (history : History) → IsInOrder history → (txn : ℕ) (last : Change) (rest : List Change) → pending_of history txn ≡ last ∷ rest → Stands history txn last
+newest_stands : (history : History) → IsInOrder history → (txn : ℕ) (last : Change) (rest : List Change) → pending_of history txn ≡ last ∷ rest → Stands history last
+newest_stands history ordered txn last rest is = record { inside = last_is_inside history txn last rest is; holds = last_is_held history ordered txn last rest is }
 
-undone_mine : NewestStand → (before new : History) (last : Change) (rest : List Change) → IsLegal before → (IsFinished before last.txn → ⊥) → pending_of before last.txn ≡ last ∷ rest
+undone_mine : (before new : History) (last : Change) (rest : List Change) → IsLegal before → (IsFinished before last.txn → ⊥) → pending_of before last.txn ≡ last ∷ rest
     → Undone before last new → IsUndone before last.txn rest new
-undone_mine stand before new last rest legal unfinished is undone =
+undone_mine before new last rest legal unfinished is undone =
     let mid : History = undone.settled in
     let there : IsEntered before last mid = entered_by before mid last rest legal unfinished is undone.settles in
     let is_mid : pending_of mid last.txn ≡ last ∷ rest = there.pending last.txn ∙ is in
     let done : IsUndone mid last.txn rest (undoes (undo_for undone.lsn last) ∷ mid) =
     undone_by mid last rest undone.lsn there.legal (λ f. unfinished (there.finished last.txn f)) is_mid
-    (stand mid (legal_in_order mid there.legal) last.txn last rest is_mid) there.entered undone.above in
+    (newest_stands mid (legal_is_in_order mid there.legal) last.txn last rest is_mid) there.entered undone.above in
     subst (λ (h : History). IsUndone before last.txn rest h) (sym undone.new_is)
     (record {
       legal = done.legal;
@@ -200,8 +197,8 @@ undone_mine stand before new last rest legal unfinished is undone =
     })
 
 -- no undo lacks room
-pub no_undo_lacks_room : NewestStand → NoUndoLacksRoom
-no_undo_lacks_room stand before new txn last rest legal unfinished is undone =
-    let mine : last.txn ≡ txn = (stand before (legal_in_order before legal) txn last rest is).of_it in
+pub no_undo_lacks_room : NoUndoLacksRoom
+no_undo_lacks_room before new txn last rest legal unfinished is undone =
+    let mine : last.txn ≡ txn = last_is_of before txn last rest is in
     subst (λ (t : ℕ). IsUndone before t rest new) mine
-    (undone_mine stand before new last rest legal (λ f. unfinished (subst (λ (t : ℕ). IsFinished before t) mine f)) (ap (pending_of before) mine ∙ is) undone)
+    (undone_mine before new last rest legal (λ f. unfinished (subst (λ (t : ℕ). IsFinished before t) mine f)) (ap (pending_of before) mine ∙ is) undone)
