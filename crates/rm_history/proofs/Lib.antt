@@ -15,3 +15,4 @@ pub mod UndoTheorem
 pub mod Rollbacks
 pub mod AllPending
 pub mod Losers
+pub mod Restarts

@@ -3,7 +3,7 @@ use Rattle.std.proofs.Common.{◌≡◌, ◌⊎◌, inl, inr, ℕ, ◌+◌, ◌<
 use Rattle.std.proofs.lemmas.Bool.{cases_eq, eq-eqb, ne_eqb}
 use Rattle.rm_history.specs.Acts.{Act, Change, Finish, History, ends, newest_lsn}
 use Rattle.rm_history.specs.Contents.{page_of, entry_of}
-use Rattle.rm_history.specs.Pending.{pending_of, rows_of_log, IsFinished}
+use Rattle.rm_history.specs.Pending.{pending_of, rows_of_log, IsFinished, HasRecord}
 use Rattle.rm_history.specs.Needs.{on_page, need_for, need_of, sum_below, Fits}
 use Rattle.rm_history.specs.Rules.{MayEnd, IsPendingOn, EntriesFollow, Follows, IsLegal}
 use Rattle.rm_history.specs.Undoing.{AllUndone, Ended, RolledBack}
@@ -64,6 +64,9 @@ pub record HasEnded (before : History) (txn : ℕ) (new : History) : Type 0 wher
   pub legal : IsLegal new
   pub pending : (any : ℕ) → pending_of new any ≡ pending_of before any
   pub finished : IsFinished new txn
+  pub kept : (any : ℕ) → IsFinished before any → IsFinished new any
+  pub no_more : (any : ℕ) → IsFinished new any → (txn ≡ any) ⊎ IsFinished before any
+  pub records : (any : ℕ) → HasRecord new any → (txn ≡ any) ⊎ HasRecord before any
   pub rows : rows_of_log new ≡ rows_of_log before
 
 pub has_ended : (before new : History) (txn : ℕ) → IsLegal before → (IsFinished before txn → ⊥) → pending_of before txn ≡ [] → Ended before txn new → HasEnded before txn new
@@ -79,6 +82,9 @@ has_ended before new txn legal unfinished none ended =
       );
       pending = λ any. pending-ended f before any may;
       finished = inl refl;
+      kept = λ any finished. inr finished;
+      no_more = λ any finished. finished;
+      records = λ any has. has;
       rows = refl;
     })
 
