@@ -1,14 +1,14 @@
 -- How what a page uses, and what the undo of its pending changes needs, change with one record.
-use Rattle.std.proofs.Common.{◌≡◌, ℕ, zero, suc, ◌+◌, ◌-◌, ◌<◌, ◌≤◌, List, [], ◌∷◌, length, inl, inr, refl, sym, ap, ◌∙◌, arith}
+use Rattle.std.proofs.Common.{◌≡◌, ℕ, zero, suc, ◌+◌, ◌-◌, ◌<◌, ◌≤◌, List, ◌∷◌, length, inl, inr, refl, sym, ap, ◌∙◌, arith}
 use Rattle.std.proofs.lemmas.Bool.{cases_eq, cases_lt, eq-eqb, ne_eqb}
 use Rattle.rm_types.specs.declared.slots.Slot.{Slot}
 use Rattle.rm_types.specs.declared.slots.TheConstants.{CAPACITY}
 use Rattle.rm_model.specs.Pages.{used, row_length, set_slot}
 use Rattle.rm_model.proofs.Slots.{used-set_slot}
 use Rattle.rm_history.specs.Acts.{Change, Undo, History, changes, undoes}
-use Rattle.rm_history.specs.Contents.{slot_at, page_of}
+use Rattle.rm_history.specs.Contents.{slot_at}
 use Rattle.rm_history.specs.Pending.{older, pending_of}
-use Rattle.rm_history.specs.Needs.{on_page, need_for, need_of, sum_below, Fits}
+use Rattle.rm_history.specs.Needs.{on_page, need_for, need_of, sum_below}
 use Rattle.rm_history.proofs.PendingSteps.{pending-change, pending-change_other, pending-undo, pending-undo_other}
 
 -- ---- sums
@@ -54,10 +54,11 @@ used-inside slots number slot inside = omega (arith, used-set_slot slots number 
 
 -- ---- what an undo needs
 
--- a change on a page is the newest of those on it, and one elsewhere is none of them
+-- a change on a page is the newest of those on it
 pub on_page-here : (page : ℕ) (last : Change) (rest : List Change) → last.rid.page ≡ page → on_page page (last ∷ rest) ≡ last ∷ on_page page rest
 on_page-here page last rest here = rw (eq-eqb last.rid.page page here)
 
+-- and one elsewhere is none of them
 pub on_page-elsewhere : (page : ℕ) (last : Change) (rest : List Change) → (last.rid.page ≡ page → ⊥) → on_page page (last ∷ rest) ≡ on_page page rest
 on_page-elsewhere page last rest other = rw (ne_eqb last.rid.page page other)
 
@@ -66,6 +67,7 @@ pub need_for-here : (page : ℕ) (last : Change) (rest : List Change) → last.r
     → need_for (on_page page (last ∷ rest)) ≡ (need_for (on_page page rest) + row_length last.before) - row_length last.after
 need_for-here page last rest here = ap need_for (on_page-here page last rest here)
 
+-- and on any other page what the older ones need
 pub need_for-elsewhere : (page : ℕ) (last : Change) (rest : List Change) → (last.rid.page ≡ page → ⊥) → need_for (on_page page (last ∷ rest)) ≡ need_for (on_page page rest)
 need_for-elsewhere page last rest other = ap need_for (on_page-elsewhere page last rest other)
 
@@ -80,25 +82,28 @@ pub need_of-change : (before : History) (c : Change) (page : ℕ) → c.rid.page
     → need_of (changes c ∷ before) c.txn page ≡ (need_of before c.txn page + row_length c.before) - row_length c.after
 need_of-change before c page here = ap (λ (all : List Change). need_for (on_page page all)) (pending-change c before) ∙ need_for-here page c (pending_of before c.txn) here
 
+-- a change on another page leaves what the undo needs
 pub need_of-change_elsewhere : (before : History) (c : Change) (page : ℕ) → (c.rid.page ≡ page → ⊥) → need_of (changes c ∷ before) c.txn page ≡ need_of before c.txn page
 need_of-change_elsewhere before c page other = ap (λ (all : List Change). need_for (on_page page all)) (pending-change c before) ∙ need_for-elsewhere page c (pending_of before c.txn) other
 
+-- and a change leaves what the other transactions' undo needs
 pub need_of-change_other : (before : History) (c : Change) (other page : ℕ) → (c.txn ≡ other → ⊥) → need_of (changes c ∷ before) other page ≡ need_of before other page
 need_of-change_other before c other page differs = ap (λ (all : List Change). need_for (on_page page all)) (pending-change_other c before other differs)
 
--- and behind an undo: the last change's need was no less than that of the older ones with the bytes that it gave up, without those
--- that it took
+-- before an undo it needs what it needs behind it, with the bytes that the change gave up and without those that it took
 pub need_of-undo : (before : History) (u : Undo) (last : Change) (rest : List Change) (page : ℕ) → pending_of before u.txn ≡ last ∷ rest → last.rid.page ≡ page
     → need_of before u.txn page ≡ (need_of (undoes u ∷ before) u.txn page + row_length last.before) - row_length last.after
 need_of-undo before u last rest page is here =
     ap (λ (all : List Change). need_for (on_page page all)) is ∙ need_for-here page last rest here
     ∙ ap (λ (all : List Change). (need_for (on_page page all) + row_length last.before) - row_length last.after) (sym (pending_of-undo before u last rest is))
 
+-- an undo on another page leaves what the undo of the rest needs
 pub need_of-undo_elsewhere : (before : History) (u : Undo) (last : Change) (rest : List Change) (page : ℕ) → pending_of before u.txn ≡ last ∷ rest → (last.rid.page ≡ page → ⊥)
     → need_of (undoes u ∷ before) u.txn page ≡ need_of before u.txn page
 need_of-undo_elsewhere before u last rest page is other =
     ap (λ (all : List Change). need_for (on_page page all)) (pending_of-undo before u last rest is) ∙ sym (need_for-elsewhere page last rest other)
     ∙ ap (λ (all : List Change). need_for (on_page page all)) (sym is)
 
+-- and an undo leaves what the other transactions' undo needs
 pub need_of-undo_other : (before : History) (u : Undo) (other page : ℕ) → (u.txn ≡ other → ⊥) → need_of (undoes u ∷ before) other page ≡ need_of before other page
 need_of-undo_other before u other page differs = ap (λ (all : List Change). need_for (on_page page all)) (pending-undo_other u before other differs)

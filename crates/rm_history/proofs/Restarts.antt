@@ -1,15 +1,15 @@
 -- Restart's undo can be made of any history, and leaves a legal one, in which nothing is pending and the inventory is right.
-use Rattle.std.proofs.Common.{◌≡◌, ◌⊎◌, inl, inr, ℕ, suc, ◌<◌, ◌≤◌, List, [], ◌∷◌, refl, sym, ap, subst, ◌∙◌, arith}
+use Rattle.std.proofs.Common.{◌≡◌, ◌⊎◌, inl, inr, ℕ, suc, ◌<◌, List, [], ◌∷◌, refl, sym, ap, subst, ◌∙◌, arith}
 use Rattle.std.proofs.lemmas.Bool.{cases_eq}
 use Rattle.rm_types.specs.declared.numbers.Rid.{Rid}
 use Rattle.rm_model.specs.Object.{Rows}
-use Rattle.rm_history.specs.Acts.{Act, Change, Undo, Finish, History, changes, undoes, enters, commits, ends, lists, newest_lsn}
+use Rattle.rm_history.specs.Acts.{Change, History, changes, undoes, enters, commits, ends, lists, newest_lsn}
 use Rattle.rm_history.specs.Contents.{page_of, entry_of, category_of}
 use Rattle.rm_history.specs.Pending.{pending_of, without_newest, all_pending, rows_of_log, IsFinished, HasRecord, HasChange}
 use Rattle.rm_history.specs.Needs.{on_page}
-use Rattle.rm_history.specs.Rules.{IsPendingOn, IsInOrder, IsLegal}
-use Rattle.rm_history.specs.Undoing.{category_after, entry_for, undo_for, Settles, Undone, AllUndone, Ended, AllEnded, Restarted, losers_of}
-use Rattle.rm_history.specs.Meaning.{IsUndone, IsRestarted, RestartsAreLegal, RestartsAreThere}
+use Rattle.rm_history.specs.Rules.{IsLegal}
+use Rattle.rm_history.specs.Undoing.{category_after, entry_for, undo_for, Settles, Undone, AllUndone, AllEnded, losers_of}
+use Rattle.rm_history.specs.Meaning.{IsUndone, RestartsAreLegal, RestartsAreThere}
 use Rattle.rm_history.proofs.Fronts.{legal_is_in_order}
 use Rattle.rm_history.proofs.PendingLaws.{changed_none, changed_has_change}
 use Rattle.rm_history.proofs.Chains.{last_is_changed, last_is_unfinished}
@@ -21,6 +21,7 @@ use Rattle.rm_history.proofs.Losers.{IsAmong, Rise, losers_rise, losers_are_all,
 
 -- ---- it can be made
 
+-- the page's entry is right, or the record that sets it comes with the next LSN
 settles_there : (before : History) (last : Change) → (settled : History) × Settles before last settled
 settles_there before last = elim (cases_eq (entry_of before last.rid.page) (category_after before last)) [
   | inl right ↦ (before, inl (right, refl))
@@ -29,12 +30,14 @@ settles_there before last = elim (cases_eq (entry_of before last.rid.page) (cate
       (enters (entry_for lsn before last) ∷ before, inr (wrong, (lsn, omega arith, refl)))
 ]
 
+-- a change is undone,
 undone_there : (before : History) (last : Change) → (new : History) × Undone before last new
 undone_there before last =
     let found = settles_there before last in
     let lsn : ℕ = suc (newest_lsn found.0) in
     (undoes (undo_for lsn last) ∷ found.0, record { settled = found.0; settles = found.1; lsn = lsn; above = omega arith; new_is = refl })
 
+-- these changes are,
 all_undone_there : (before : History) (all : List Change) → (new : History) × AllUndone before all new
 all_undone_there before [] = (before, refl)
 all_undone_there before (last ∷ rest) =
@@ -42,6 +45,7 @@ all_undone_there before (last ∷ rest) =
     let more = all_undone_there one.0 rest in
     (more.0, (one.0, one.1, more.1))
 
+-- and these transactions end
 all_ended_there : (before : History) (txns : List ℕ) → (new : History) × AllEnded before txns new
 all_ended_there before [] = (before, refl)
 all_ended_there before (txn ∷ rest) =
@@ -50,6 +54,7 @@ all_ended_there before (txn ∷ rest) =
     let more = all_ended_there mid rest in
     (more.0, (mid, record { lsn = lsn; above = omega arith; new_is = refl }, more.1))
 
+-- so all that is pending is undone, and all losers end
 pub restarts_are_there : RestartsAreThere
 restarts_are_there before =
     let undone = all_undone_there before (all_pending before) in
@@ -65,6 +70,7 @@ record Leaves (before : History) (txn : ℕ) (new : History) : Type 0 where
   no_more : (any : ℕ) → IsFinished new any → IsFinished before any
   records : (any : ℕ) → HasRecord new any → (txn ≡ any) ⊎ HasRecord before any
 
+-- with the entry before it or without
 undo_leaves : (before settled : History) (last : Change) (lsn : ℕ) → Settles before last settled → Leaves before last.txn (undoes (undo_for lsn last) ∷ settled)
 undo_leaves before settled last lsn (inl stays) =
     subst (λ (h : History). Leaves before last.txn (undoes (undo_for lsn last) ∷ h)) (sym stays.1)
@@ -78,6 +84,7 @@ undo_leaves before settled last lsn (inr differs) =
       records = λ any has. elim has [ inl undone ↦ inl undone | inr earlier ↦ earlier ];
     })
 
+-- so each undo leaves that
 undone_leaves : (before new : History) (last : Change) → Undone before last new → Leaves before last.txn new
 undone_leaves before new last undone = subst (Leaves before last.txn) (sym undone.new_is) (undo_leaves before undone.settled last undone.lsn undone.settles)
 
@@ -90,6 +97,7 @@ record AllAreUndone (before new : History) : Type 0 where
   records : (any : ℕ) → HasRecord new any → HasRecord before any
   rows : rows_of_log new ≡ rows_of_log before
 
+-- a change is a record of its transaction
 change_is_record : (history : History) (txn : ℕ) (rid : Rid) → HasChange history txn rid → HasRecord history txn
 change_is_record [] txn rid = λ has. has
 change_is_record (changes c ∷ before) txn rid = elim [ inl now ↦ inl now.0 | inr earlier ↦ inr (change_is_record before txn rid earlier) ]
@@ -105,6 +113,7 @@ newest_has_record history last rest is =
     change_is_record history last.txn last.rid
     (changed_has_change history last.txn last.rid (last_is_changed history last.txn last (of_txn last.txn rest) (pending_of-newest history last rest is)))
 
+-- undoing these, which are all that is pending, gives that history
 all_are_undone : (before new : History) (all : List Change) → IsLegal before → all_pending before ≡ all → AllUndone before all new → AllAreUndone before new
 all_are_undone before new [] legal is undone =
     subst (AllAreUndone before) (sym undone)
@@ -140,6 +149,7 @@ record AllHaveEnded (before : History) (txns : List ℕ) (new : History) : Type 
   records : (any : ℕ) → HasRecord new any → IsAmong txns any ⊎ HasRecord before any
   rows : rows_of_log new ≡ rows_of_log before
 
+-- the end of these, none of which is finished or has a change pending, gives that history
 all_have_ended : (before new : History) (txns : List ℕ) → IsLegal before → Rise txns → ((txn : ℕ) → IsAmong txns txn → IsFinished before txn → ⊥)
     → ((txn : ℕ) → pending_of before txn ≡ []) → AllEnded before txns new → AllHaveEnded before txns new
 all_have_ended before new [] legal rise unfinished none ended =
@@ -177,6 +187,7 @@ all_entered history legal none page = elim (entries_follow history legal page) [
   | inr pending ↦ absurd (pending.1 (ap (on_page page) (none pending.0)))
 ]
 
+-- all that is pending is undone, all losers end, and the pages hold the committed rows then
 pub restarts_are_legal : RestartsAreLegal
 restarts_are_legal before new legal restarted =
     let mid : History = restarted.undone in

@@ -1,12 +1,10 @@
 -- A rollback of an unfinished transaction is legal, and leaves the committed rows as they are.
-use Rattle.std.proofs.Common.{◌≡◌, ◌⊎◌, inl, inr, ℕ, ◌+◌, ◌<◌, ◌≤◌, List, [], ◌∷◌, refl, sym, ap, subst, ◌∙◌, arith}
-use Rattle.std.proofs.lemmas.Bool.{cases_eq, eq-eqb, ne_eqb}
-use Rattle.rm_history.specs.Acts.{Act, Change, Finish, History, ends, newest_lsn}
-use Rattle.rm_history.specs.Contents.{page_of, entry_of}
+use Rattle.std.proofs.Common.{◌≡◌, ◌⊎◌, inl, inr, ℕ, List, [], ◌∷◌, refl, sym, ap, subst, ◌∙◌, arith}
+use Rattle.rm_history.specs.Acts.{Change, Finish, History, ends}
 use Rattle.rm_history.specs.Pending.{pending_of, rows_of_log, IsFinished, HasRecord}
-use Rattle.rm_history.specs.Needs.{on_page, need_for, need_of, sum_below, Fits}
-use Rattle.rm_history.specs.Rules.{MayEnd, IsPendingOn, EntriesFollow, Follows, IsLegal}
-use Rattle.rm_history.specs.Undoing.{AllUndone, Ended, RolledBack}
+use Rattle.rm_history.specs.Needs.{on_page, need_for, need_of, Fits}
+use Rattle.rm_history.specs.Rules.{MayEnd, EntriesFollow, IsLegal}
+use Rattle.rm_history.specs.Undoing.{AllUndone, Ended}
 use Rattle.rm_history.specs.Meaning.{RollbacksAreLegal}
 use Rattle.rm_history.proofs.Fronts.{legal_is_in_order}
 use Rattle.rm_history.proofs.ChainSteps.{pending-ended}
@@ -69,6 +67,7 @@ pub record HasEnded (before : History) (txn : ℕ) (new : History) : Type 0 wher
   pub records : (any : ℕ) → HasRecord new any → (txn ≡ any) ⊎ HasRecord before any
   pub rows : rows_of_log new ≡ rows_of_log before
 
+-- the end of a transaction that has nothing pending gives that history
 pub has_ended : (before new : History) (txn : ℕ) → IsLegal before → (IsFinished before txn → ⊥) → pending_of before txn ≡ [] → Ended before txn new → HasEnded before txn new
 has_ended before new txn legal unfinished none ended =
     let f : Finish = record { lsn = ended.lsn; txn = txn } in
@@ -90,6 +89,7 @@ has_ended before new txn legal unfinished none ended =
 
 -- ---- the theorem
 
+-- all of a transaction's changes are undone, and then it ends
 pub rollbacks_are_legal : RollbacksAreLegal
 rollbacks_are_legal before new txn legal unfinished back =
     let undone : AreUndone before txn back.undone = all_undone before back.undone txn (pending_of before txn) legal unfinished refl back.undoes_all in

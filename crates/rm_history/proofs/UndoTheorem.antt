@@ -1,22 +1,22 @@
 -- A transaction's last pending change can always be undone: its page has the room.
-use Rattle.std.proofs.Common.{◌≡◌, ◌⊎◌, inl, inr, ℕ, zero, suc, ◌+◌, ◌<◌, ◌≤◌, List, [], ◌∷◌, length, refl, sym, ap, subst, ◌∙◌, arith}
+use Rattle.std.proofs.Common.{◌≡◌, inl, inr, ℕ, zero, suc, ◌+◌, ◌<◌, ◌≤◌, List, [], ◌∷◌, length, refl, sym, ap, subst, ◌∙◌, arith}
 use Rattle.std.proofs.lemmas.Bool.{cases_eq, eq-eqb, ne_eqb}
-use Rattle.rm_types.specs.declared.slots.TheConstants.{CAPACITY}
 use Rattle.rm_model.specs.Pages.{used, row_length, set_slot}
-use Rattle.rm_history.specs.Acts.{Act, Change, Undo, Entry, History, undoes, enters, newest_lsn}
+use Rattle.rm_history.specs.Acts.{Change, Undo, History, undoes, enters, newest_lsn}
 use Rattle.rm_history.specs.Contents.{slot_at, page_of, category_of, entry_of}
 use Rattle.rm_history.specs.Pending.{pending_of, rows_of_log, IsFinished}
-use Rattle.rm_history.specs.Needs.{on_page, need_for, need_of, sum_below, Fits}
-use Rattle.rm_history.specs.Rules.{MayUndo, MayEnter, IsPendingOn, EntriesFollow, Follows, IsInOrder, IsLegal}
+use Rattle.rm_history.specs.Needs.{on_page, need_of, sum_below, Fits}
+use Rattle.rm_history.specs.Rules.{MayUndo, IsPendingOn, EntriesFollow, Follows, IsInOrder, IsLegal}
 use Rattle.rm_history.specs.Undoing.{category_after, entry_for, undo_for, Settles, Undone}
 use Rattle.rm_history.specs.Meaning.{IsUndone, NoUndoLacksRoom}
-use Rattle.rm_history.proofs.NeedSums.{sum_below-same, room_kept, used-inside, on_page-here, on_page-elsewhere, pending_of-undo, need_of-undo, need_of-undo_elsewhere, need_of-undo_other}
+use Rattle.rm_history.proofs.NeedSums.{room_kept, used-inside, on_page-here, on_page-elsewhere, pending_of-undo, need_of-undo, need_of-undo_elsewhere, need_of-undo_other}
 use Rattle.rm_history.proofs.Fronts.{legal_is_in_order}
 use Rattle.rm_history.proofs.PendingSteps.{pending-undo_other}
 use Rattle.rm_history.proofs.Chains.{last_is_of, last_is_inside, last_is_held}
 
 -- ---- what is known of a legal history
 
+-- nothing adds up to nothing
 sum_below-zero : (n : ℕ) → sum_below (λ k. 0) n ≡ 0
 sum_below-zero zero = refl
 sum_below-zero (suc n) = omega (arith, sum_below-zero n)
@@ -65,6 +65,7 @@ entry_comes before last rest lsn legal unfinished is other above = record {
   fits = fits_in_order before (legal_is_in_order before legal);
 }
 
+-- so settling gives that history
 entered_by : (before settled : History) (last : Change) (rest : List Change) → IsLegal before → (IsFinished before last.txn → ⊥) → pending_of before last.txn ≡ last ∷ rest
     → Settles before last settled → IsEntered before last settled
 entered_by before settled last rest legal unfinished is (inl stays) =
@@ -178,6 +179,7 @@ undone_by before last rest lsn legal unfinished is stands entered above = record
 newest_stands : (history : History) → IsInOrder history → (txn : ℕ) (last : Change) (rest : List Change) → pending_of history txn ≡ last ∷ rest → Stands history last
 newest_stands history ordered txn last rest is = record { inside = last_is_inside history txn last rest is; holds = last_is_held history ordered txn last rest is }
 
+-- a transaction's last pending change, undone with the entry of its page before it
 undone_mine : (before new : History) (last : Change) (rest : List Change) → IsLegal before → (IsFinished before last.txn → ⊥) → pending_of before last.txn ≡ last ∷ rest
     → Undone before last new → IsUndone before last.txn rest new
 undone_mine before new last rest legal unfinished is undone =
