@@ -16,3 +16,4 @@ pub mod Rollbacks
 pub mod AllPending
 pub mod Losers
 pub mod Restarts
+pub mod UndoBytes

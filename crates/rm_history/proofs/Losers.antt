@@ -1,5 +1,5 @@
 -- The losers of a history are the transactions that have a record and are not finished.
-use Rattle.std.proofs.Common.{◌≡◌, ◌⊎◌, inl, inr, ℕ, ◌<◌, List, [], ◌∷◌, refl, sym, subst, ◌∙◌, arith}
+use Rattle.std.proofs.Common.{◌≡◌, ◌⊎◌, inl, inr, ℕ, ◌<◌, List, [], ◌∷◌, refl, sym, ap, subst, ◌∙◌, arith}
 use Rattle.std.proofs.lemmas.Bool.{cases_eq, cases_lt, eq-eqb, ne_eqb, lt-ltb, le-ltb}
 use Rattle.rm_history.specs.Acts.{History, changes, undoes, enters, commits, ends, lists}
 use Rattle.rm_history.specs.Pending.{IsFinished, HasRecord}
@@ -38,7 +38,7 @@ without_number_cases P n first rest same other = elim (cases_eq n first) [
 ]
 
 -- the number is among those with it
-with_number-there : (n : ℕ) (all : List ℕ) → IsAmong (with_number n all) n
+pub with_number-there : (n : ℕ) (all : List ℕ) → IsAmong (with_number n all) n
 with_number-there n [] = inl refl
 with_number-there n (first ∷ rest) =
     with_number_cases (λ l. IsAmong l n) n first rest (λ below. inl refl) (λ same. inl (sym same)) (λ above. inr (with_number-there n rest))
@@ -61,6 +61,14 @@ with_number-only n k (first ∷ rest) =
       | inl here ↦ inr (inl here)
       | inr there ↦ elim (with_number-only n k rest there) [ inl is ↦ inl is | inr had ↦ inr (inr had) ]
     ])
+
+-- numbers that rise are the same with one of them
+pub with_number-kept : (n : ℕ) (all : List ℕ) → Rise all → IsAmong all n → with_number n all ≡ all
+with_number-kept n [] rise among = absurd among
+with_number-kept n (first ∷ rest) rise (inl here) = rw (le-ltb n first (omega (arith, here)), eq-eqb n first (sym here))
+with_number-kept n (first ∷ rest) rise (inr there) =
+    let above : first < n = rise.0 n there in
+    rw (le-ltb n first (omega arith), ne_eqb n first (λ same. let less : n ≡ first = same in absurd (omega arith))) (ap (λ (l : List ℕ). first ∷ l) (with_number-kept n rest rise.1 there))
 
 -- numbers that rise do so with one more
 with_number-rise : (n : ℕ) (all : List ℕ) → Rise all → Rise (with_number n all)

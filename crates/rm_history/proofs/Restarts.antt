@@ -108,7 +108,7 @@ change_is_record (ends f ∷ before) txn rid = λ has. inr (change_is_record bef
 change_is_record (lists l ∷ before) txn rid = change_is_record before txn rid
 
 -- the transaction of the newest of all that is pending has a record
-newest_has_record : (history : History) (last : Change) (rest : List Change) → all_pending history ≡ last ∷ rest → HasRecord history last.txn
+pub newest_has_record : (history : History) (last : Change) (rest : List Change) → all_pending history ≡ last ∷ rest → HasRecord history last.txn
 newest_has_record history last rest is =
     change_is_record history last.txn last.rid
     (changed_has_change history last.txn last.rid (last_is_changed history last.txn last (of_txn last.txn rest) (pending_of-newest history last rest is)))
