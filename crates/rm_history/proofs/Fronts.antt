@@ -1,7 +1,5 @@
 -- What stands before the newest records of a history.
-use Rattle.std.proofs.Common.{List, [], ◌∷◌, ◌++◌}
-use Rattle.rm_history.specs.Acts.{History}
-use Rattle.rm_history.specs.Rules.{IsInOrder, IsLegal}
+use Rattle.std.proofs.Common.{[], ◌∷◌}
 use Rattle.rm_history.specs.Meaning.{FrontsAreInOrder, LegalFronts, LegalIsInOrder}
 
 -- what stands before the newest records is in order

@@ -1,5 +1,4 @@
 -- What the pages of a history hold: what its pending changes left, and elsewhere the committed rows.
-use Rattle.std.proofs.Common.{◌≡◌}
 use Rattle.rm_history.specs.Pending.{pending_of, rows_of_log}
 use Rattle.rm_history.specs.Meaning.{PagesHoldWhatIsPending, PagesHoldWhatIsCommitted}
 use Rattle.rm_history.proofs.LeadsBack.{unchanged_row, applied_leads}
