@@ -3,11 +3,6 @@ pub mod Settled
 pub mod Readings
 pub mod Undo
 pub mod Damages
-pub mod NeedLaws
-pub mod NetLists
-pub mod ChangeLsns
-pub mod NetLaws
-pub mod WinnerLaws
 pub mod Fronts
 pub mod PendingSteps
 pub mod PendingLaws
@@ -15,3 +10,15 @@ pub mod LeadsBack
 pub mod ChainSteps
 pub mod Chains
 pub mod Holding
+pub mod NeedLaws
+pub mod NetLists
+pub mod ChangeLsns
+pub mod NetLaws
+pub mod WinnerLaws
+pub mod NeedSums
+pub mod UndoTheorem
+pub mod Rollbacks
+pub mod AllPending
+pub mod Losers
+pub mod Restarts
+pub mod UndoBytes

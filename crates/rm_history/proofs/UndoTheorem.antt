@@ -1,0 +1,206 @@
+-- A transaction's last pending change can always be undone: its page has the room.
+use Rattle.std.proofs.Common.{◌≡◌, inl, inr, ℕ, zero, suc, ◌+◌, ◌<◌, ◌≤◌, List, [], ◌∷◌, length, refl, sym, ap, subst, ◌∙◌, arith}
+use Rattle.std.proofs.lemmas.Bool.{cases_eq, eq-eqb, ne_eqb}
+use Rattle.rm_model.specs.Pages.{used, row_length, set_slot}
+use Rattle.rm_history.specs.Acts.{Change, Undo, History, undoes, enters, newest_lsn}
+use Rattle.rm_history.specs.Contents.{slot_at, page_of, category_of, entry_of}
+use Rattle.rm_history.specs.Pending.{pending_of, rows_of_log, IsFinished}
+use Rattle.rm_history.specs.Needs.{on_page, need_of, sum_below, Fits}
+use Rattle.rm_history.specs.Rules.{MayUndo, IsPendingOn, EntriesFollow, Follows, IsInOrder, IsLegal}
+use Rattle.rm_history.specs.Undoing.{category_after, entry_for, undo_for, Settles, Undone}
+use Rattle.rm_history.specs.Meaning.{IsUndone, NoUndoLacksRoom}
+use Rattle.rm_history.proofs.NeedSums.{room_kept, used-inside, on_page-here, on_page-elsewhere, pending_of-undo, need_of-undo, need_of-undo_elsewhere, need_of-undo_other}
+use Rattle.rm_history.proofs.Fronts.{legal_is_in_order}
+use Rattle.rm_history.proofs.PendingSteps.{pending-undo_other}
+use Rattle.rm_history.proofs.Chains.{last_is_of, last_is_inside, last_is_held}
+
+-- ---- what is known of a legal history
+
+-- nothing adds up to nothing
+sum_below-zero : (n : ℕ) → sum_below (λ k. 0) n ≡ 0
+sum_below-zero zero = refl
+sum_below-zero (suc n) = omega (arith, sum_below-zero n)
+
+-- each page of a history in order fits
+pub fits_in_order : (history : History) → IsInOrder history → Fits history
+fits_in_order [] ordered = λ page n. omega (arith, sum_below-zero n)
+fits_in_order (act ∷ before) ordered = ordered.1.fits
+
+-- the inventory of a legal history follows
+pub entries_follow : (history : History) → IsLegal history → EntriesFollow history
+entries_follow [] legal = λ page. inl refl
+entries_follow (act ∷ before) legal = legal.2
+
+-- what a transaction has pending is pending on its page
+is_pending_on : (history : History) (txn : ℕ) (last : Change) (rest : List Change) → pending_of history txn ≡ last ∷ rest → IsPendingOn history last.rid.page
+is_pending_on history txn last rest is =
+    let one : on_page last.rid.page (pending_of history txn) ≡ last ∷ on_page last.rid.page rest =
+    ap (on_page last.rid.page) is ∙ on_page-here last.rid.page last rest refl in
+    (txn, λ none. cc)
+
+-- ---- the page's entry
+
+-- behind an entry of its page's category the entries of the other pages are as before
+entries_follow_entry : (before : History) (last : Change) (rest : List Change) (lsn : ℕ) → pending_of before last.txn ≡ last ∷ rest → EntriesFollow before
+    → EntriesFollow (enters (entry_for lsn before last) ∷ before)
+entries_follow_entry before last rest lsn is follow page = elim (cases_eq last.rid.page page) [
+  | inl here ↦ inr (subst (λ (p : ℕ). IsPendingOn before p) here (is_pending_on before last.txn last rest is))
+  | inr other ↦ rw (ne_eqb last.rid.page page other) (follow page)
+]
+
+-- the history in which the page of the change has the entry that undoing the change wants
+record IsEntered (before : History) (last : Change) (new : History) : Type 0 where
+  legal : IsLegal new
+  pending : (txn : ℕ) → pending_of new txn ≡ pending_of before txn
+  finished : (txn : ℕ) → IsFinished new txn → IsFinished before txn
+  rows : rows_of_log new ≡ rows_of_log before
+  entered : entry_of new last.rid.page ≡ category_after new last
+
+-- the record that enters it may come
+entry_comes : (before : History) (last : Change) (rest : List Change) (lsn : ℕ) → IsLegal before → (IsFinished before last.txn → ⊥) → pending_of before last.txn ≡ last ∷ rest
+    → (entry_of before last.rid.page ≡ category_after before last → ⊥) → newest_lsn before < lsn → Follows before (enters (entry_for lsn before last))
+entry_comes before last rest lsn legal unfinished is other above = record {
+  above = above;
+  may_come = record { unfinished = unfinished; last = last; is_last = (rest, is); page_is = refl; differs = λ same. other (sym same); right = inr refl };
+  fits = fits_in_order before (legal_is_in_order before legal);
+}
+
+-- so settling gives that history
+entered_by : (before settled : History) (last : Change) (rest : List Change) → IsLegal before → (IsFinished before last.txn → ⊥) → pending_of before last.txn ≡ last ∷ rest
+    → Settles before last settled → IsEntered before last settled
+entered_by before settled last rest legal unfinished is (inl stays) =
+    subst (λ (h : History). IsEntered before last h) (sym stays.1)
+    (record { legal = legal; pending = λ txn. refl; finished = λ txn f. f; rows = refl; entered = stays.0 })
+entered_by before settled last rest legal unfinished is (inr differs) =
+    let lsn : ℕ = differs.1.0 in
+    subst (λ (h : History). IsEntered before last h) (sym differs.1.2)
+    (record {
+      legal = (legal, entry_comes before last rest lsn legal unfinished is differs.0 differs.1.1, entries_follow_entry before last rest lsn is (entries_follow before legal));
+      pending = λ txn. refl;
+      finished = λ txn f. f;
+      rows = refl;
+      entered = rw (eq-eqb last.rid.page last.rid.page refl);
+    })
+
+-- ---- the compensation
+
+-- what is to be known of a transaction's newest pending change: its slot is inside of the directory, and holds what the change left
+record Stands (history : History) (last : Change) : Type 0 where
+  inside : last.rid.slot < length (page_of history last.rid.page)
+  holds : slot_at (page_of history last.rid.page) last.rid.slot ≡ last.after
+
+-- on the change's page the undo gives up no more room than is kept for it
+room_for_undo : (before : History) (last : Change) (rest : List Change) (lsn page : ℕ) → pending_of before last.txn ≡ last ∷ rest → Stands before last → last.rid.page ≡ page
+    → used (set_slot (page_of before page) last.rid.slot last.before) + need_of (undoes (undo_for lsn last) ∷ before) last.txn page
+    ≤ used (page_of before page) + need_of before last.txn page
+room_for_undo before last rest lsn page is stands here =
+    let there : last.rid.slot < length (page_of before page) = subst (λ (p : ℕ). last.rid.slot < length (page_of before p)) here stands.inside in
+    let held : row_length (slot_at (page_of before page) last.rid.slot) ≡ row_length last.after =
+    ap (λ (p : ℕ). row_length (slot_at (page_of before p) last.rid.slot)) (sym here) ∙ ap row_length stands.holds in
+    omega (arith, held, used-inside (page_of before page) last.rid.slot last.before there, need_of-undo before (undo_for lsn last) last rest page is here)
+
+-- so with the compensation each page fits
+undo_fits : (before : History) (last : Change) (rest : List Change) (lsn : ℕ) → pending_of before last.txn ≡ last ∷ rest → Stands before last → Fits before
+    → Fits (undoes (undo_for lsn last) ∷ before)
+undo_fits before last rest lsn is stands fits page n =
+    let u : Undo = undo_for lsn last in
+    let others : (k : ℕ) → (k ≡ last.txn → ⊥) → need_of (undoes u ∷ before) k page ≡ need_of before k page =
+    λ k other. need_of-undo_other before u k page (λ same. other (sym same)) in
+    elim (cases_eq last.rid.page page) [
+      | inl here ↦ rw (eq-eqb last.rid.page page here)
+          (room_kept (λ k. need_of before k page) (λ k. need_of (undoes u ∷ before) k page) last.txn (used (page_of before page)) (used (set_slot (page_of before page) last.rid.slot last.before))
+          others (room_for_undo before last rest lsn page is stands here) (fits page) n)
+      | inr other ↦ rw (ne_eqb last.rid.page page other)
+          (room_kept (λ k. need_of before k page) (λ k. need_of (undoes u ∷ before) k page) last.txn (used (page_of before page)) (used (page_of before page))
+          others (omega (arith, need_of-undo_elsewhere before u last rest page is other)) (fits page) n)
+    ]
+
+-- what is pending on another page is so behind the compensation
+still_pending : (before : History) (last : Change) (rest : List Change) (lsn page : ℕ) → pending_of before last.txn ≡ last ∷ rest → (last.rid.page ≡ page → ⊥)
+    → IsPendingOn before page → IsPendingOn (undoes (undo_for lsn last) ∷ before) page
+still_pending before last rest lsn page is other pending =
+    let u : Undo = undo_for lsn last in
+    let same : on_page page (pending_of (undoes u ∷ before) pending.0) ≡ on_page page (pending_of before pending.0) = elim (cases_eq last.txn pending.0) [
+      | inl mine ↦ subst (λ (t : ℕ). on_page page (pending_of (undoes u ∷ before) t) ≡ on_page page (pending_of before t)) mine
+          (ap (on_page page) (pending_of-undo before u last rest is) ∙ sym (on_page-elsewhere page last rest other) ∙ ap (on_page page) (sym is))
+      | inr others ↦ ap (on_page page) (pending-undo_other u before pending.0 others)
+    ] in
+    (pending.0, λ none. pending.1 (sym same ∙ none))
+
+-- behind the compensation its page's entry is right, and all others follow as before
+entries_follow_undo : (before : History) (last : Change) (rest : List Change) (lsn : ℕ) → pending_of before last.txn ≡ last ∷ rest
+    → entry_of before last.rid.page ≡ category_after before last → EntriesFollow before → EntriesFollow (undoes (undo_for lsn last) ∷ before)
+entries_follow_undo before last rest lsn is entered follow page = elim (cases_eq last.rid.page page) [
+  | inl here ↦ inl (rw (eq-eqb last.rid.page page here)
+      (subst (λ (p : ℕ). entry_of before p ≡ category_of (set_slot (page_of before p) last.rid.slot last.before)) here entered))
+  | inr other ↦ elim (follow page) [
+    | inl right ↦ inl (rw (ne_eqb last.rid.page page other) right)
+    | inr pending ↦ inr (still_pending before last rest lsn page is other pending)
+  ]
+]
+
+-- the compensation may come
+compensation_comes : (before : History) (last : Change) (rest : List Change) (lsn : ℕ) → (IsFinished before last.txn → ⊥) → pending_of before last.txn ≡ last ∷ rest
+    → entry_of before last.rid.page ≡ category_after before last → MayUndo before (undo_for lsn last)
+compensation_comes before last rest lsn unfinished is entered = record {
+  unfinished = unfinished;
+  last = last;
+  is_last = (rest, is);
+  undone_is = refl;
+  rid_is = refl;
+  next_is = refl;
+  back_is = refl;
+  entered = entered;
+}
+
+-- ---- the theorem
+
+-- of a change whose slot stands, undone in a history in which its page has the right entry
+undone_by : (before : History) (last : Change) (rest : List Change) (lsn : ℕ) → IsLegal before → (IsFinished before last.txn → ⊥) → pending_of before last.txn ≡ last ∷ rest
+    → Stands before last → entry_of before last.rid.page ≡ category_after before last → newest_lsn before < lsn
+    → IsUndone before last.txn rest (undoes (undo_for lsn last) ∷ before)
+undone_by before last rest lsn legal unfinished is stands entered above = record {
+  legal = (
+    legal,
+    record {
+      above = above;
+      may_come = compensation_comes before last rest lsn unfinished is entered;
+      fits = undo_fits before last rest lsn is stands (fits_in_order before (legal_is_in_order before legal));
+    },
+    entries_follow_undo before last rest lsn is entered (entries_follow before legal),
+  );
+  pending = pending_of-undo before (undo_for lsn last) last rest is;
+  others = λ other differs. pending-undo_other (undo_for lsn last) before other (λ same. differs (sym same));
+  unfinished = unfinished;
+  rows = refl;
+}
+
+-- in a history in order each transaction's newest pending change stands
+newest_stands : (history : History) → IsInOrder history → (txn : ℕ) (last : Change) (rest : List Change) → pending_of history txn ≡ last ∷ rest → Stands history last
+newest_stands history ordered txn last rest is = record { inside = last_is_inside history txn last rest is; holds = last_is_held history ordered txn last rest is }
+
+-- a transaction's last pending change, undone with the entry of its page before it
+undone_mine : (before new : History) (last : Change) (rest : List Change) → IsLegal before → (IsFinished before last.txn → ⊥) → pending_of before last.txn ≡ last ∷ rest
+    → Undone before last new → IsUndone before last.txn rest new
+undone_mine before new last rest legal unfinished is undone =
+    let mid : History = undone.settled in
+    let there : IsEntered before last mid = entered_by before mid last rest legal unfinished is undone.settles in
+    let is_mid : pending_of mid last.txn ≡ last ∷ rest = there.pending last.txn ∙ is in
+    let done : IsUndone mid last.txn rest (undoes (undo_for undone.lsn last) ∷ mid) =
+    undone_by mid last rest undone.lsn there.legal (λ f. unfinished (there.finished last.txn f)) is_mid
+    (newest_stands mid (legal_is_in_order mid there.legal) last.txn last rest is_mid) there.entered undone.above in
+    subst (λ (h : History). IsUndone before last.txn rest h) (sym undone.new_is)
+    (record {
+      legal = done.legal;
+      pending = done.pending;
+      others = λ other differs. done.others other differs ∙ there.pending other;
+      unfinished = done.unfinished;
+      rows = done.rows ∙ there.rows;
+    })
+
+-- no undo lacks room
+pub no_undo_lacks_room : NoUndoLacksRoom
+no_undo_lacks_room before new txn last rest legal unfinished is undone =
+    let mine : last.txn ≡ txn = last_is_of before txn last rest is in
+    subst (λ (t : ℕ). IsUndone before t rest new) mine
+    (undone_mine before new last rest legal (λ f. unfinished (subst (λ (t : ℕ). IsFinished before t) mine f)) (ap (pending_of before) mine ∙ is) undone)
