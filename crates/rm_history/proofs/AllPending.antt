@@ -5,7 +5,6 @@ use Rattle.rm_history.specs.Acts.{Change, Undo, Finish, History, changes, undoes
 use Rattle.rm_history.specs.Contents.{entry_of}
 use Rattle.rm_history.specs.Pending.{older, pending_of, without_newest, without, all_pending}
 use Rattle.rm_history.specs.Undoing.{category_after, entry_for, some_lsn}
-use Rattle.rm_history.specs.Meaning.{UndoBytesGoDown}
 
 -- the changes that are of a transaction
 abbrev pub of_txn : ℕ → List Change → List Change
@@ -92,16 +91,3 @@ pending_of-none history none txn = pending_of-all history txn ∙ ap (of_txn txn
 -- without the newest of the list, for its transaction, the list has the rest
 pub without_newest-head : (last : Change) (rest : List Change) → without_newest (last ∷ rest) last.txn ≡ rest
 without_newest-head last rest = rw (eq-eqb last.txn last.txn refl)
-
--- an entry leaves what is pending
-all_pending-with_entry : (right : Bool) (history : History) (last : Change)
-    → all_pending (cond right history (enters (entry_for (some_lsn history) history last) ∷ history)) ≡ all_pending history
-all_pending-with_entry true history last = refl
-all_pending-with_entry false history last = refl
-
--- so the undo that is left is that of the rest
-pub undo_bytes_go_down : UndoBytesGoDown
-undo_bytes_go_down history last rest ordered is =
-    ap (λ (all : List Change). without_newest all last.txn)
-    (all_pending-with_entry (eqb (entry_of history last.rid.page) (category_after history last)) history last ∙ is)
-    ∙ without_newest-head last rest

@@ -7,7 +7,8 @@ use Rattle.rm_history.specs.Acts.{Change, History, undoes, enters, ends, newest_
 use Rattle.rm_history.specs.Contents.{page_of, category_of, entry_of}
 use Rattle.rm_history.specs.Pending.{without_newest, without, all_pending}
 use Rattle.rm_history.specs.Rules.{IsInOrder}
-use Rattle.rm_history.specs.Undoing.{category_after, entry_for, undo_for, Settles, Undone, Ended, with_number, without_number, losers_of, inventory_record, compensate_record, end_record, bytes_of, some_lsn, with_entry, with_undo, undoing_bytes, ending_bytes, undo_bytes}
+use Rattle.rm_history.specs.Undoing.{category_after, entry_for, undo_for, Settles, Undone, Ended, with_number, without_number, losers_of, inventory_record, compensate_record, end_record, bytes_of, entry_bytes, some_lsn, with_entry, with_undo, undoing_bytes, ending_bytes, undo_bytes}
+use Rattle.rm_history.specs.Meaning.{UndoBytesGoDown}
 use Rattle.rm_history.proofs.Chains.{last_is_unfinished}
 use Rattle.rm_history.proofs.AllPending.{of_txn, pending_of-newest, without_newest-head}
 use Rattle.rm_history.proofs.Losers.{IsAmong, losers_rise, losers_are_all, with_number-there, with_number-kept}
@@ -89,10 +90,6 @@ some_undone history last = record {
 }
 
 -- ---- the bytes of the undo are those of its records, whatever their LSNs
-
--- the bytes of the entry before an undo, where it is wanted
-abbrev pub entry_bytes : History → Change → ℕ
-entry_bytes history last = if entry_of history last.rid.page == category_after history last then 0 else bytes_of (inventory_record (entry_for 0 history last))
 
 -- they hang on the pages and entries alone
 entry_bytes_alike : (history other : History) (last : Change) → AreAlike history other → entry_bytes history last ≡ entry_bytes other last
@@ -192,3 +189,6 @@ undo_bytes-ended before new txn rest none are ended =
     let all : ending_bytes (losers_of before) ≡ bytes_of (end_record txn) + ending_bytes rest = ap ending_bytes are in
     let less : ending_bytes (losers_of after) ≡ ending_bytes rest = ap ending_bytes losers in
     omega (arith, new_bytes, first, later, all, less)
+
+pub undo_bytes_go_down : UndoBytesGoDown
+undo_bytes_go_down = record { entered = undo_bytes-entered; undone = undo_bytes-undone; ended = undo_bytes-ended }

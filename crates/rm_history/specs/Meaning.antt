@@ -1,13 +1,13 @@
 -- What holds of all histories that are in order, and of all that are legal.
-use Rattle.std.specs.Prelude.{◌≡◌, ℕ, ◌+◌, List, [], ◌∷◌, ◌++◌, reverse, ◌⊎◌}
+use Rattle.std.specs.Prelude.{◌≡◌, ℕ, ◌+◌, ◌<◌, List, [], ◌∷◌, ◌++◌, reverse, ◌⊎◌}
 use Rattle.rm_types.specs.declared.numbers.Rid.{Rid}
 use Rattle.rm_model.specs.Pages.{row_at}
-use Rattle.rm_history.specs.Acts.{Act, Change, History}
+use Rattle.rm_history.specs.Acts.{Change, History, enters, newest_lsn}
 use Rattle.rm_history.specs.Contents.{page_of, category_of, entry_of}
 use Rattle.rm_history.specs.Pending.{pending_of, all_pending, last_of, applied, rows_of_log, IsFinished, HasRecord}
 use Rattle.rm_history.specs.Needs.{on_page, need_for}
 use Rattle.rm_history.specs.Rules.{IsInOrder, IsLegal}
-use Rattle.rm_history.specs.Undoing.{Undone, RolledBack, Restarted, with_undo, undo_bytes, bytes_of, compensate_record, undo_for}
+use Rattle.rm_history.specs.Undoing.{category_after, entry_for, undo_for, Undone, Ended, RolledBack, Restarted, losers_of, inventory_record, compensate_record, end_record, bytes_of, entry_bytes, undo_bytes}
 use Rattle.rm_history.specs.Literal.{net, rows_of_acts, IsNeed}
 
 -- each change names the next one as the pending record below it, and the oldest names none
@@ -90,6 +90,12 @@ RowsAreOfWinners = (history : History) → IsInOrder history → (rid : Rid) →
 abbrev pub NeedIsTheMost : Type 0
 NeedIsTheMost = (changed : List Change) → IsNeed (reverse changed) (need_for changed)
 
--- the bytes of the undo go down by those of each record that it appends
-abbrev pub UndoBytesGoDown : Type 0
-UndoBytesGoDown = (history : History) (last : Change) (rest : List Change) → IsInOrder history → all_pending history ≡ last ∷ rest → all_pending (with_undo history last) ≡ rest
+-- The bytes of the undo go down by just those of each record that it appends, whatever the LSNs are.
+pub record UndoBytesGoDown : Type 0 where
+  pub entered : (before : History) (last : Change) (rest : List Change) (lsn : ℕ) → IsInOrder before → all_pending before ≡ last ∷ rest
+      → (entry_of before last.rid.page ≡ category_after before last → ⊥) → newest_lsn before < lsn
+      → undo_bytes before ≡ bytes_of (inventory_record (entry_for 0 before last)) + undo_bytes (enters (entry_for lsn before last) ∷ before)
+  pub undone : (before new : History) (last : Change) (rest : List Change) → IsInOrder before → all_pending before ≡ last ∷ rest → Undone before last new
+      → undo_bytes before ≡ entry_bytes before last + bytes_of (compensate_record (undo_for 0 last)) + undo_bytes new
+  pub ended : (before new : History) (txn : ℕ) (rest : List ℕ) → all_pending before ≡ [] → losers_of before ≡ txn ∷ rest → Ended before txn new
+      → undo_bytes before ≡ bytes_of (end_record txn) + undo_bytes new

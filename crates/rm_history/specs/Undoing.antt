@@ -114,12 +114,14 @@ with_entry history last = if entry_of history last.rid.page == category_after hi
 abbrev pub with_undo : History → Change → History
 with_undo history last = undoes (undo_for (some_lsn (with_entry history last)) last) ∷ with_entry history last
 
+-- the bytes of the record that enters the category behind an undo: none where the entry will be right
+abbrev pub entry_bytes : History → Change → ℕ
+entry_bytes history last = if entry_of history last.rid.page == category_after history last then 0 else bytes_of (inventory_record (entry_for 0 history last))
+
 -- the bytes of undoing these changes, one after the other
 abbrev pub undoing_bytes : History → List Change → ℕ
 undoing_bytes history [] = 0
-undoing_bytes history (last ∷ rest) =
-    (if entry_of history last.rid.page == category_after history last then 0 else bytes_of (inventory_record (entry_for 0 history last)))
-    + bytes_of (compensate_record (undo_for 0 last)) + undoing_bytes (with_undo history last) rest
+undoing_bytes history (last ∷ rest) = entry_bytes history last + bytes_of (compensate_record (undo_for 0 last)) + undoing_bytes (with_undo history last) rest
 
 -- the bytes of ending these transactions
 abbrev pub ending_bytes : List ℕ → ℕ

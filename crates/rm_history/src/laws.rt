@@ -1,0 +1,78 @@
+//! What holds of all histories: functions without code, whose contracts are laws.
+
+ghost use Rattle.rm_history.specs.Meaning.{FrontsAreInOrder, LegalFronts, LegalIsInOrder, PendingIsChained, PendingIsOfOne, PagesHoldWhatIsPending, PagesHoldWhatIsCommitted, NoUndoLacksRoom, RollbacksAreLegal, RestartsAreLegal, RestartsAreThere, UndoBytesGoDown, NetIsPending, RowsAreOfWinners, NeedIsTheMost};
+
+/// What stands before the newest records of a history in order is in order.
+pub fn a_front_of_a_history_in_order_is_in_order()
+    ensures { FrontsAreInOrder }
+{}
+
+/// What stands before the newest records of a legal history is legal.
+pub fn what_a_legal_history_had_before_is_legal()
+    ensures { LegalFronts }
+{}
+
+/// A legal history is in order.
+pub fn a_legal_history_is_in_order()
+    ensures { LegalIsInOrder }
+{}
+
+/// Each pending change of a transaction names the one below it.
+pub fn pending_changes_are_a_chain()
+    ensures { PendingIsChained }
+{}
+
+/// The pending changes of one row id are of one transaction.
+pub fn pending_changes_of_a_row_id_are_of_one_transaction()
+    ensures { PendingIsOfOne }
+{}
+
+/// A page holds what its pending changes left on the committed row.
+pub fn a_page_holds_what_is_pending()
+    ensures { PagesHoldWhatIsPending }
+{}
+
+/// Where no change is pending a page holds the committed row.
+pub fn a_page_holds_what_is_committed()
+    ensures { PagesHoldWhatIsCommitted }
+{}
+
+/// The undo of a transaction's last pending change is legal: its page has the room.
+pub fn no_undo_lacks_room()
+    ensures { NoUndoLacksRoom }
+{}
+
+/// A rollback is legal, and leaves the committed rows.
+pub fn a_rollback_is_legal()
+    ensures { RollbacksAreLegal }
+{}
+
+/// Restart's undo is legal; behind it nothing is pending, each page holds the committed rows, and each entry is right.
+pub fn restart_is_legal()
+    ensures { RestartsAreLegal }
+{}
+
+/// Restart's undo of a history can be made.
+pub fn every_history_can_be_restarted()
+    ensures { RestartsAreThere }
+{}
+
+/// The bytes of restart's undo go down by those of each record that it appends.
+pub fn undo_bytes_go_down()
+    ensures { UndoBytesGoDown }
+{}
+
+/// The net changes of an unfinished transaction are those that are pending.
+pub fn net_changes_are_pending()
+    ensures { NetIsPending }
+{}
+
+/// The committed rows are those that the winners' net changes leave.
+pub fn rows_are_those_of_the_winners()
+    ensures { RowsAreOfWinners }
+{}
+
+/// A need is the most that any of the last changes gave up.
+pub fn a_need_is_the_most_of_all_suffixes()
+    ensures { NeedIsTheMost }
+{}
