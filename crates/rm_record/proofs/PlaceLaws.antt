@@ -104,6 +104,3 @@ pub entries_more : (n low high : ℕ) (bytes : List ℕ) (places : List Place) (
     → behind places (entries_field (suc n) low high bytes) ≡ behind (places ++ place ∷ []) (entries_field n (place.number + 1) high rest)
 entries_more n low high bytes places place rest e =
     rw e (behind_one places place (entries_field n (place.number + 1) high rest))
-
-pub entries_fail : (n low high : ℕ) (bytes : List ℕ) (places : List Place) → place_field low high bytes ≡ None → behind places (entries_field (suc n) low high bytes) ≡ None
-entries_fail n low high bytes places e = rw e refl

@@ -10,7 +10,7 @@ use std::alloc::{AllocError, AllocFailed};
 pub enum DecodeRefused {
     /// No front of the bytes is a record.
     Bad,
-    /// Memory for the row ran out.
+    /// Memory for the record's rows and lists ran out.
     NoMemory,
 }
 

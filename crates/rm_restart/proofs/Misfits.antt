@@ -3,7 +3,7 @@ use Rattle.std.proofs.Common.{◌≡◌, ℕ, ◌+◌, ◌<◌, ◌≤◌, List,
 use Rattle.std.proofs.lemmas.List.{reverse-append, length-reverse, length-take}
 use Rattle.std.proofs.Math.Seq.{split_at}
 use Rattle.rm_record.specs.declared.records.LogRecord.{LogRecord}
-use Rattle.rm_record.specs.declared.records.LogRecord.TheVariants.{Insert, Commit}
+use Rattle.rm_record.specs.declared.records.LogRecord.TheVariants.{Insert}
 use Rattle.rm_record.specs.declared.records.Logged.{Logged}
 use Rattle.rm_history.specs.Histories.{History, inserts, inserts_after}
 use Rattle.rm_history.specs.Legal.{AreBelow}
