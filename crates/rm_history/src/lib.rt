@@ -36,9 +36,6 @@ pub const END_BYTES: u64 = 10;
 /// The bytes that a page uses within each of the inventory's categories.
 pub const CATEGORY_BYTES: u64 = 1_020;
 
-/// How many pages a block of the inventory describes.
-pub const BLOCK_PAGES: u32 = 1_024;
-
 /// An area has one log.
 pub fn an_area_has_one_log()
     ensures { LogsAreOne }

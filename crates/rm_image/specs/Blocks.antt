@@ -7,9 +7,10 @@ use Rattle.rm_types.specs.declared.slots.Slot.{Slot}
 use Rattle.rm_types.specs.declared.slots.Slot.TheVariants.{Vacant, Row}
 use Rattle.rm_types.specs.declared.slots.TheConstants.{SLOT_ENTRY}
 use Rattle.rm_outside.specs.Images.{Bytes, Shows}
-use Rattle.rm_history.specs.declared.TheConstants.{BLOCK_PAGES}
+use Rattle.rm_types.specs.declared.numbers.TheConstants.{BLOCK_PAGES}
 use Rattle.rm_history.specs.Contents.{slot_at}
-use Rattle.rm_image.specs.declared.TheConstants.{BLOCK_SIZE, LSN_AT, COUNT_AT, SLOTS_AT, FORM_AT, ENTRIES_AT, ENTRIES_IN_BYTE}
+use Rattle.rm_types.specs.declared.numbers.TheConstants.{BLOCK_SIZE}
+use Rattle.rm_image.specs.declared.TheConstants.{LSN_AT, COUNT_AT, SLOTS_AT, FORM_AT, ENTRIES_AT, ENTRIES_IN_BYTE}
 
 -- where the entry of a slot stands in its block: an offset in two bytes, and a length in two
 abbrev pub slot_entry_at : ℕ → ℕ

@@ -2,7 +2,7 @@
 use Rattle.std.specs.Prelude.{◌≡◌, ℕ, ◌*◌, ◌+◌, ◌≤◌, ◌<◌, ◌++◌, List}
 use Rattle.std.specs.List.{AllByRecursion}
 use Rattle.rm_types.specs.declared.slots.Slot.{Slot}
-use Rattle.rm_history.specs.declared.TheConstants.{BLOCK_PAGES}
+use Rattle.rm_types.specs.declared.numbers.TheConstants.{BLOCK_PAGES}
 use Rattle.rm_history.specs.Acts.{History, lsn_of}
 use Rattle.rm_history.specs.Contents.{page_of, version_of, entry_of, block_version_of}
 

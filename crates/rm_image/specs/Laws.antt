@@ -3,7 +3,7 @@ use Rattle.std.specs.Prelude.{◌≡◌, ℕ, ◌≤◌, ◌<◌, List, ◌↔�
 use Rattle.rm_types.specs.declared.slots.Slot.{Slot}
 use Rattle.rm_outside.specs.Images.{Bytes, Image}
 use Rattle.rm_master.specs.Fresh.{IsFresh}
-use Rattle.rm_history.specs.declared.TheConstants.{BLOCK_PAGES}
+use Rattle.rm_types.specs.declared.numbers.TheConstants.{BLOCK_PAGES}
 use Rattle.rm_history.specs.Acts.{History}
 use Rattle.rm_history.specs.Rules.{IsInOrder}
 use Rattle.rm_image.specs.Blocks.{IsDataBlock, IsInventoryBlock}

@@ -8,7 +8,8 @@ use Rattle.rm_outside.specs.Images.{Image}
 use Rattle.rm_record.specs.declared.records.LogRecord.{LogRecord}
 use Rattle.rm_master.specs.declared.fields.Fields.{Fields}
 use Rattle.rm_master.specs.Slots.{HasFields}
-use Rattle.rm_history.specs.declared.TheConstants.{BATCH_HEADER, BLOCK_PAGES}
+use Rattle.rm_types.specs.declared.numbers.TheConstants.{BLOCK_PAGES}
+use Rattle.rm_history.specs.declared.TheConstants.{BATCH_HEADER}
 use Rattle.rm_history.specs.Logs.{Batch, gate_of, HasLog}
 use Rattle.rm_history.specs.Acts.{Act, Listing, History, changes, undoes, enters, commits, ends, lists, lsn_of}
 use Rattle.rm_history.specs.Contents.{page_of, version_of, entry_of, block_version_of}

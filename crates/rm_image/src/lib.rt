@@ -4,9 +4,6 @@
 //! The crate has no code yet.
 #![tactic(auto)]
 
-/// The bytes of a block.
-pub const BLOCK_SIZE: u64 = 4_096;
-
 /// Where a block has its LSN, in eight bytes.
 pub const LSN_AT: u64 = 0;
 

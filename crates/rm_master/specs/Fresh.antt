@@ -2,7 +2,7 @@
 use Rattle.std.specs.Prelude.{◌≡◌, ◌≢◌, ℕ, ◌+◌, ◌-◌, ◌*◌, ◌/◌, ◌<◌}
 use Rattle.rm_types.specs.declared.areas.Area.TheVariants.{Master, Log, Data, Space}
 use Rattle.rm_outside.specs.Images.{Bytes, Image}
-use Rattle.rm_master.specs.declared.fields.TheConstants.{BLOCK, PAGES_IN_SPACE_BLOCK}
+use Rattle.rm_types.specs.declared.numbers.TheConstants.{BLOCK_SIZE, BLOCK_PAGES}
 use Rattle.rm_master.specs.Fields.{fresh_fields}
 use Rattle.rm_master.specs.Slots.{HasSlot, HasFields}
 
@@ -12,13 +12,13 @@ pub record IsZeroBelow (area : Bytes) (len : ℕ) : Type 0 where
 
 -- how many blocks of Space so many pages have
 abbrev pub space_blocks : ℕ → ℕ
-space_blocks pages = (pages + PAGES_IN_SPACE_BLOCK - 1) / PAGES_IN_SPACE_BLOCK
+space_blocks pages = (pages + BLOCK_PAGES - 1) / BLOCK_PAGES
 
 -- the log begins with a closed gate, and the blocks of Data and Space are zeros
 pub record IsCleared (pages : ℕ) (c : Image) : Type 0 where
   pub gate : c Log 0 ≢ 1
-  pub data_blocks : IsZeroBelow (c Data) (BLOCK * pages)
-  pub space : IsZeroBelow (c Space) (BLOCK * space_blocks pages)
+  pub data_blocks : IsZeroBelow (c Data) (BLOCK_SIZE * pages)
+  pub space : IsZeroBelow (c Space) (BLOCK_SIZE * space_blocks pages)
 
 -- a volume of so many pages that was just made
 pub record IsFresh (pages : ℕ) (c : Image) : Type 0 where

@@ -15,10 +15,10 @@ ghost use Rattle.rm_master.specs.Slots.{HasSlot, IsUnmade};
 ghost use Rattle.rm_master.specs.Fresh.{IsZeroBelow, IsCleared, IsFresh, space_blocks};
 
 use crate::calls::{sync, sync_content, write};
-use crate::fields::{BLOCK, Fields, MADE, MADE_AT, PAGES_IN_SPACE_BLOCK, PARITY_AT, SLOTS_AT};
+use crate::fields::{Fields, MADE, MADE_AT, PARITY_AT, SLOTS_AT};
 use crate::spelling::spelling;
 use rm_outside::Volume;
-use rm_types::{Area, Fault, MAX_PAGES};
+use rm_types::{Area, BLOCK_PAGES, BLOCK_SIZE, Fault, MAX_PAGES};
 
 /// A gate that is closed.
 const CLOSED: u8 = 0;
@@ -27,17 +27,17 @@ const CLOSED: u8 = 0;
 const FIRST_SLOT: u8 = 0;
 
 /// A block of zeros.
-fn zero_block() -> [u8; BLOCK]
-    ensures zeros { (k : ℕ) → k < BLOCK → get_or result k 0 ≡ 0 }
-    ensures len { length result ≡ BLOCK }
+fn zero_block() -> [u8; BLOCK_SIZE]
+    ensures zeros { (k : ℕ) → k < BLOCK_SIZE → get_or result k 0 ≡ 0 }
+    ensures len { length result ≡ BLOCK_SIZE }
 {
-    [0; BLOCK]
+    [0; BLOCK_SIZE]
 }
 
 /// Writes zeros to one block.
 fn clear_block<V: Volume>(volume: &mut V, area: Area, block: u32) -> Result<(), Fault>
     requires { block ≤ last_block area }
-    ensures zeros { OnOk result (IsTrue V.tells → IsZeroBelow (V.content volume.old area) (BLOCK * block) → IsZeroBelow (V.content volume.new area) (BLOCK * (block + 1))) }
+    ensures zeros { OnOk result (IsTrue V.tells → IsZeroBelow (V.content volume.old area) (BLOCK_SIZE * block) → IsZeroBelow (V.content volume.new area) (BLOCK_SIZE * (block + 1))) }
     ensures content { KeepsOthers area (V.content volume.old) (V.content volume.new) }
     ensures crash { Follows (KeepsOthers area) (V.may_leave volume.old) (V.may_leave volume.new) }
     ensures any_moment { LeavesOnly (V.moment volume.old) (V.moment volume.new) (V.left_since volume.old) (V.left_since volume.new) (After (KeepsOthers area) (V.may_leave volume.old)) }
@@ -48,13 +48,13 @@ fn clear_block<V: Volume>(volume: &mut V, area: Area, block: u32) -> Result<(), 
     ensures same { V.reference volume.new ≡ V.reference volume.old }
 {
     let zeros = zero_block();
-    write(volume, area, BLOCK as u64 * block as u64, &zeros)
+    write(volume, area, BLOCK_SIZE as u64 * block as u64, &zeros)
 }
 
 /// Writes zeros to so many blocks.
 fn clear_blocks<V: Volume>(volume: &mut V, area: Area, count: u32) -> Result<(), Fault>
     requires { count ≤ last_block area + 1 }
-    ensures zeros { OnOk result (IsTrue V.tells → IsZeroBelow (V.content volume.new area) (BLOCK * count)) }
+    ensures zeros { OnOk result (IsTrue V.tells → IsZeroBelow (V.content volume.new area) (BLOCK_SIZE * count)) }
     ensures content { KeepsOthers area (V.content volume.old) (V.content volume.new) }
     ensures crash { Follows (KeepsOthers area) (V.may_leave volume.old) (V.may_leave volume.new) }
     ensures any_moment { LeavesOnly (V.moment volume.old) (V.moment volume.new) (V.left_since volume.old) (V.left_since volume.new) (After (KeepsOthers area) (V.may_leave volume.old)) }
@@ -75,7 +75,7 @@ fn space_block_count(pages: u32) -> u32
     requires { pages ≤ MAX_PAGES }
     ensures { result ≡ space_blocks pages }
 {
-    (pages + PAGES_IN_SPACE_BLOCK - 1) / PAGES_IN_SPACE_BLOCK
+    (pages + BLOCK_PAGES - 1) / BLOCK_PAGES
 }
 
 /// Writes a closed gate and the blocks of zeros.

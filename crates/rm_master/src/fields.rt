@@ -5,12 +5,6 @@ ghost use Rattle.rm_master.specs.Fields.{IsFields, KeepFileRules, KeepCheckpoint
 
 use rm_types::{MAX_LOG, MAX_PAGES};
 
-/// The bytes of a block of Data, Space or Copy.
-pub const BLOCK: usize = 4096;
-
-/// How many pages one block of Space speaks of.
-pub const PAGES_IN_SPACE_BLOCK: u32 = 1024;
-
 /// The version of the format.
 pub const VERSION: u16 = 1;
 

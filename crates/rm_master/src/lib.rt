@@ -17,7 +17,7 @@ mod spelling;
 
 pub use calls::sync_areas;
 pub use faults::{CreateFault, MasterFault};
-pub use fields::{BLOCK, Fields, PAGES_IN_SPACE_BLOCK};
+pub use fields::Fields;
 pub use laws::an_area_has_one_reading;
 pub use master::Master;
 

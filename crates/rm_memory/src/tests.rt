@@ -4,7 +4,7 @@ ghost use Rattle.std.specs.Prelude.{◌≤◌, ◌^◌, length};
 
 use crate::{FILLING, MemSink, MemSource, MemVolume};
 use rm_outside::{Failed, Sink, Source, Volume};
-use rm_types::{Area, NoMemory};
+use rm_types::{Area, BLOCK_SIZE, NoMemory};
 use std::alloc::Global;
 use std::test::Fail;
 
@@ -12,8 +12,6 @@ use std::test::Fail;
 const FILLED: u64 = 1 << 63;
 
 /// A block of Data.
-const BLOCK: usize = 4096;
-
 // Whether a write to Log was answered Ok.
 fn logs(volume: &mut MemVolume, at: u8, from: &[u8]) -> bool
     requires { length from.now ≤ 2 ^ 40 }
@@ -23,7 +21,7 @@ fn logs(volume: &mut MemVolume, at: u8, from: &[u8]) -> bool
 
 // Whether a write of the first block of Data was answered Ok.
 fn fills(volume: &mut MemVolume, byte: u8) -> bool {
-    volume.write(Area::Data, 0, &[byte; BLOCK]).is_ok()
+    volume.write(Area::Data, 0, &[byte; BLOCK_SIZE]).is_ok()
 }
 
 // Whether a sync was answered Ok.
@@ -40,9 +38,9 @@ fn log_front(volume: &mut MemVolume) -> Result<[u8; 5], Failed> {
 
 // The first and the last byte of the first block of Data.
 fn data_ends(volume: &mut MemVolume) -> Result<(u8, u8), Failed> {
-    let mut block = [1; BLOCK];
+    let mut block = [1; BLOCK_SIZE];
     volume.read(Area::Data, 0, &mut block)?;
-    Ok((block[0], block[BLOCK - 1]))
+    Ok((block[0], block[BLOCK_SIZE - 1]))
 }
 
 // The first bytes of Log, and the ends of Data, after a crash.

@@ -21,7 +21,10 @@ pub use bindings::Names;
 pub use faults::{Fault, StoreFault};
 pub use lines::{Line, MAX_BYTES, MAX_LINES, Name, Script, Target, Which};
 pub use memory::NoMemory;
-pub use numbers::{Lsn, MAX_BLOCKS, MAX_CATEGORY, MAX_LOG, MAX_PAGES, MAX_SLOT, Rid, TxnId};
+pub use numbers::{
+    BLOCK_PAGES, BLOCK_SIZE, Lsn, MAX_BLOCKS, MAX_CATEGORY, MAX_LOG, MAX_PAGES, MAX_SLOT, Rid,
+    TxnId,
+};
 pub use operations::{Op, Reply};
 pub use places::{MAX_PLACES, Place, Places};
 pub use rows::{MAX_ROW, Row};

@@ -6,7 +6,13 @@ pub const MAX_SLOT: u16 = 1019;
 /// The most pages that a file has.
 pub const MAX_PAGES: u32 = 16_384;
 
-/// The most blocks that a file's inventory has: a block describes 1,024 pages.
+/// The bytes of a block of the areas Data, Space and Copy: of a page, or of a part of the inventory.
+pub const BLOCK_SIZE: usize = 4_096;
+
+/// How many pages a block of the inventory describes.
+pub const BLOCK_PAGES: u32 = 1_024;
+
+/// The most blocks that a file's inventory has.
 pub const MAX_BLOCKS: u32 = 16;
 
 /// The greatest category that the inventory has for a page.
