@@ -1,8 +1,10 @@
 //! Which images of a volume are whole (docs/DEFINITIONS.md): what its blocks stand for, that each lacks no
 //! record from before its redo offset, which checkpoint and which copy the master may name.
 //!
-//! The crate has no code yet.
+//! The crate has no code yet. The functions are laws: each ensures something of the definitions alone.
 #![tactic(auto)]
+
+ghost use Rattle.rm_image.specs.Laws.{BlocksHaveFronts, InventoryBlocksHaveFronts};
 
 /// The bytes of a block.
 pub const BLOCK_SIZE: u64 = 4_096;
@@ -30,3 +32,15 @@ pub const HALF_BLOCKS: u64 = 16_400;
 
 /// The block of a half at which the copy of the inventory begins.
 pub const COPIED_SPACE: u64 = 16_384;
+
+/// Of a history in order, where gates rise with LSNs: the block of a page stands for it just where it
+/// has the page of a front of it, behind which no record's gate is before the redo offset.
+pub fn a_page_block_has_a_front()
+    ensures { BlocksHaveFronts }
+{}
+
+/// Likewise, a block of the inventory stands for the history just where it has the categories of such
+/// a front.
+pub fn an_inventory_block_has_a_front()
+    ensures { InventoryBlocksHaveFronts }
+{}
