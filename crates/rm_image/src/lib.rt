@@ -4,7 +4,7 @@
 //! The crate has no code yet. The functions are laws: each ensures something of the definitions alone.
 #![tactic(auto)]
 
-ghost use Rattle.rm_image.specs.Laws.{BlocksHaveFronts, InventoryBlocksHaveFronts};
+ghost use Rattle.rm_image.specs.Laws.{DataBlocksAreOne, InventoryBlocksAreOne, BlocksHaveFronts, InventoryBlocksHaveFronts};
 
 /// The bytes of a block.
 pub const BLOCK_SIZE: u64 = 4_096;
@@ -32,6 +32,16 @@ pub const HALF_BLOCKS: u64 = 16_400;
 
 /// The block of a half at which the copy of the inventory begins.
 pub const COPIED_SPACE: u64 = 16_384;
+
+/// A data block stands for one LSN and one list of slots.
+pub fn a_data_block_stands_for_one_page()
+    ensures { DataBlocksAreOne }
+{}
+
+/// A block of the inventory stands for one LSN, and for one category of each page that it describes.
+pub fn an_inventory_block_stands_for_one_list()
+    ensures { InventoryBlocksAreOne }
+{}
 
 /// Of a history in order, where gates rise with LSNs: the block of a page stands for it just where it
 /// has the page of a front of it, behind which no record's gate is before the redo offset.
