@@ -45,8 +45,8 @@ module _ (area : Bytes) where
       let count : length slots ≡ length others =
       number_once _ (length slots) (length others) (omega (arith, is.few)) (omega (arith, other_is.few)) is.count other_is.count in
       ext_get_or Vacant slots others count (λ number inside.
-          let there : HasSlot area block (length slots) number (slot_at others number) (other_is.places number) = rw count (other_is.each number (omega arith)) in
-          slot_once block (length slots) number (slot_at slots number) (slot_at others number) (is.places number) (other_is.places number) (is.each number inside) there)
+      let there : HasSlot area block (length slots) number (slot_at others number) (other_is.places number) = rw count (other_is.each number (omega arith)) in
+      slot_once block (length slots) number (slot_at slots number) (slot_at others number) (is.places number) (other_is.places number) (is.each number inside) there)
 
 -- a data block has one LSN and one list of slots
 pub data_blocks_are_one : DataBlocksAreOne

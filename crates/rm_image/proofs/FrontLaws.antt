@@ -19,6 +19,7 @@ cond-le false a b bound first second = second
 -- ---- the block of a page
 
 module _ (page : ℕ) where
+  -- the records that are on the page
   abbrev IsOn : Act → Type 0
   IsOn act = IsOnPage act page
 
@@ -50,6 +51,7 @@ module _ (page : ℕ) where
     abbrev Holds : History → Type 0
     Holds history = (version ≡ version_of history page) × (slots ≡ page_of history page)
 
+    -- so it is such a block
     is_block : IsBlock Holds IsOn gates version redo
     is_block = record {
       stays = λ act before off holds. (holds.0 ∙ sym (version_off act before off), holds.1 ∙ sym (page_off act before off));
@@ -58,6 +60,7 @@ module _ (page : ℕ) where
       within = λ history ordered holds. omega (arith, holds.0, version_within history ordered);
     }
 
+    -- the two ways of saying what it stands for, record by record
     to_stands : (history : History) → StandsFor gates history page version slots redo → Stands Holds IsOn gates version redo history
     to_stands [] stands = stands
     to_stands (act ∷ before) stands = (stands.0, λ above. ((stands.1 above).0, to_stands before (stands.1 above).1))
@@ -66,6 +69,7 @@ module _ (page : ℕ) where
     from_stands [] stands = stands
     from_stands (act ∷ before) stands = (stands.0, λ above. ((stands.1 above).0, from_stands before (stands.1 above).1))
 
+    -- the two ways of saying which front it has
     to_front : (history : History) → Front Holds IsOn gates version redo history → HasFront gates history page version slots redo
     to_front history front = record {
       newer = front.newer;
@@ -76,12 +80,14 @@ module _ (page : ℕ) where
       lacks_none = front.lacks_none;
     }
 
+    -- a block with a front stands for the history
     from_front : (history : History) → IsInOrder history → HasFront gates history page version slots redo → StandsFor gates history page version slots redo
     from_front history ordered front =
         let parts_ordered : IsInOrder (front.newer ++ front.before) = subst IsInOrder front.split ordered in
         let stands = stands_for_front Holds IsOn gates version redo is_block front.newer front.before parts_ordered (front.version_is, front.slots_are) front.lacks_none in
         from_stands history (subst (Stands Holds IsOn gates version redo) (sym front.split) stands)
 
+    -- both directions
     fronts : (history : History) → IsInOrder history → ((a b : ℕ) → a ≤ b → gates a ≤ gates b) → StandsFor gates history page version slots redo ↔ HasFront gates history page version slots redo
     fronts history ordered rise = (
       λ stands. to_front history (front_of Holds IsOn gates version redo is_block rise history ordered (to_stands history stands)),
@@ -99,6 +105,7 @@ block_of-page : (block index : ℕ) → index < BLOCK_PAGES → (BLOCK_PAGES * b
 block_of-page block index inside = omega arith
 
 module _ (block : ℕ) where
+  -- the records that are in the block
   abbrev IsIn : Act → Type 0
   IsIn act = IsInBlock act block
 
@@ -130,6 +137,7 @@ module _ (block : ℕ) where
     abbrev HoldsEntries : History → Type 0
     HoldsEntries history = (version ≡ block_version_of history block) × ((index : ℕ) → index < BLOCK_PAGES → entries index ≡ entry_of history (BLOCK_PAGES * block + index))
 
+    -- so it is such a block
     is_entries_block : IsBlock HoldsEntries IsIn gates version redo
     is_entries_block = record {
       stays = λ act before off holds. (
@@ -144,6 +152,7 @@ module _ (block : ℕ) where
       within = λ history ordered holds. omega (arith, holds.0, block_version_within history ordered);
     }
 
+    -- the two ways of saying what it stands for, record by record
     entries_to_stands : (history : History) → EntriesStandFor gates history block version entries redo → Stands HoldsEntries IsIn gates version redo history
     entries_to_stands [] stands = stands
     entries_to_stands (act ∷ before) stands = (stands.0, λ above. ((stands.1 above).0, entries_to_stands before (stands.1 above).1))
@@ -152,6 +161,7 @@ module _ (block : ℕ) where
     entries_from_stands [] stands = stands
     entries_from_stands (act ∷ before) stands = (stands.0, λ above. ((stands.1 above).0, entries_from_stands before (stands.1 above).1))
 
+    -- the two ways of saying which front it has
     entries_to_front : (history : History) → Front HoldsEntries IsIn gates version redo history → HasEntriesOfFront gates history block version entries redo
     entries_to_front history front = record {
       newer = front.newer;
@@ -162,12 +172,14 @@ module _ (block : ℕ) where
       lacks_none = front.lacks_none;
     }
 
+    -- a block with a front stands for the history
     entries_from_front : (history : History) → IsInOrder history → HasEntriesOfFront gates history block version entries redo → EntriesStandFor gates history block version entries redo
     entries_from_front history ordered front =
         let parts_ordered : IsInOrder (front.newer ++ front.before) = subst IsInOrder front.split ordered in
         let stands = stands_for_front HoldsEntries IsIn gates version redo is_entries_block front.newer front.before parts_ordered (front.version_is, front.entries_are) front.lacks_none in
         entries_from_stands history (subst (Stands HoldsEntries IsIn gates version redo) (sym front.split) stands)
 
+    -- both directions
     entries_fronts : (history : History) → IsInOrder history → ((a b : ℕ) → a ≤ b → gates a ≤ gates b)
         → EntriesStandFor gates history block version entries redo ↔ HasEntriesOfFront gates history block version entries redo
     entries_fronts history ordered rise = (

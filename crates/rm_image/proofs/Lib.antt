@@ -1,3 +1,4 @@
 pub mod FrontLemmas
 pub mod FrontLaws
 pub mod BlockLaws
+pub mod FreshLaws

@@ -4,7 +4,7 @@
 //! The crate has no code yet. The functions are laws: each ensures something of the definitions alone.
 #![tactic(auto)]
 
-ghost use Rattle.rm_image.specs.Laws.{DataBlocksAreOne, InventoryBlocksAreOne, BlocksHaveFronts, InventoryBlocksHaveFronts};
+ghost use Rattle.rm_image.specs.Laws.{DataBlocksAreOne, InventoryBlocksAreOne, BlocksHaveFronts, InventoryBlocksHaveFronts, FreshIsWhole};
 
 /// The bytes of a block.
 pub const BLOCK_SIZE: u64 = 4_096;
@@ -53,4 +53,9 @@ pub fn a_page_block_has_a_front()
 /// a front.
 pub fn an_inventory_block_has_a_front()
     ensures { InventoryBlocksHaveFronts }
+{}
+
+/// A volume that was just made is whole.
+pub fn a_new_volume_is_whole()
+    ensures { FreshIsWhole }
 {}
