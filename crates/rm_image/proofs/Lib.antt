@@ -1,0 +1,5 @@
+pub mod FrontLemmas
+pub mod FrontLaws
+pub mod BlockLaws
+pub mod FreshLaws
+pub mod Gates

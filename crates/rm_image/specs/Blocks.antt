@@ -1,5 +1,5 @@
 -- What a block of the areas Data and Space stands for.
-use Rattle.std.specs.Prelude.{◌≡◌, ◌≢◌, ℕ, ◌+◌, ◌-◌, ◌*◌, ◌/◌, ◌%◌, ◌^◌, ◌≤◌, ◌<◌, List, [], length, slice_index, ◌⊎◌}
+use Rattle.std.specs.Prelude.{◌≡◌, ◌≢◌, ℕ, ◌+◌, ◌*◌, ◌/◌, ◌%◌, ◌^◌, ◌≤◌, ◌<◌, List, length, ◌⊎◌}
 use Rattle.std.specs.Int.{w16, w64, to_be_bytes}
 use Rattle.rm_types.specs.declared.numbers.TheConstants.{MAX_SLOT}
 use Rattle.rm_types.specs.declared.rows.TheConstants.{MAX_ROW}

@@ -4,6 +4,8 @@ use Rattle.rm_types.specs.declared.slots.Slot.{Slot}
 use Rattle.rm_outside.specs.Images.{Bytes, Image}
 use Rattle.rm_master.specs.Fresh.{IsFresh}
 use Rattle.rm_types.specs.declared.numbers.TheConstants.{BLOCK_PAGES}
+use Rattle.rm_history.specs.Logs.{Batch}
+use Rattle.rm_history.specs.Batched.{batch_of}
 use Rattle.rm_history.specs.Acts.{History}
 use Rattle.rm_history.specs.Rules.{IsInOrder}
 use Rattle.rm_image.specs.Blocks.{IsDataBlock, IsInventoryBlock}
@@ -28,6 +30,10 @@ BlocksHaveFronts = (gates : ℕ → ℕ) (history : History) (page version : ℕ
 abbrev pub InventoryBlocksHaveFronts : Type 0
 InventoryBlocksHaveFronts = (gates : ℕ → ℕ) (history : History) (block version : ℕ) (entries : ℕ → ℕ) (redo : ℕ) → IsInOrder history → ((a b : ℕ) → a ≤ b → gates a ≤ gates b)
     → EntriesStandFor gates history block version entries redo ↔ HasEntriesOfFront gates history block version entries redo
+
+-- as the gates of a log's batches do
+abbrev pub GatesRise : Type 0
+GatesRise = (batches : List Batch) (a b : ℕ) → a ≤ b → batch_of batches a ≤ batch_of batches b
 
 -- a new volume is whole
 abbrev pub FreshIsWhole : Type 0

@@ -1,5 +1,5 @@
 -- Which row has room on which page.
-use Rattle.std.specs.Prelude.{◌≡◌, ℕ, ◌+◌, ◌-◌, ◌*◌, ◌≤◌, ◌<◌, max, length}
+use Rattle.std.specs.Prelude.{ℕ, ◌+◌, ◌-◌, ◌*◌, ◌≤◌, ◌<◌, max, length}
 use Rattle.rm_types.specs.declared.slots.TheConstants.{CAPACITY, SLOT_ENTRY}
 use Rattle.rm_model.specs.Pages.{used}
 use Rattle.rm_history.specs.declared.TheConstants.{CATEGORY_BYTES}

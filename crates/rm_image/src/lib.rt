@@ -1,8 +1,10 @@
 //! Which images of a volume are whole (docs/DEFINITIONS.md): what its blocks stand for, that each lacks no
 //! record from before its redo offset, which checkpoint and which copy the master may name.
 //!
-//! The crate has no code yet.
+//! The crate has no code yet. The functions are laws: each ensures something of the definitions alone.
 #![tactic(auto)]
+
+ghost use Rattle.rm_image.specs.Laws.{DataBlocksAreOne, InventoryBlocksAreOne, BlocksHaveFronts, InventoryBlocksHaveFronts, GatesRise, FreshIsWhole};
 
 /// Where a block has its LSN, in eight bytes.
 pub const LSN_AT: u64 = 0;
@@ -27,3 +29,35 @@ pub const HALF_BLOCKS: u64 = 16_400;
 
 /// The block of a half at which the copy of the inventory begins.
 pub const COPIED_SPACE: u64 = 16_384;
+
+/// A data block stands for one LSN and one list of slots.
+pub fn a_data_block_stands_for_one_page()
+    ensures { DataBlocksAreOne }
+{}
+
+/// A block of the inventory stands for one LSN, and for one category of each page that it describes.
+pub fn an_inventory_block_stands_for_one_list()
+    ensures { InventoryBlocksAreOne }
+{}
+
+/// Of a history in order, where gates rise with LSNs: the block of a page stands for it just where it
+/// has the page of a front of it, behind which no record's gate is before the redo offset.
+pub fn a_page_block_has_a_front()
+    ensures { BlocksHaveFronts }
+{}
+
+/// The gates of records rise with their LSNs.
+pub fn gates_rise()
+    ensures { GatesRise }
+{}
+
+/// Likewise, a block of the inventory stands for the history just where it has the categories of such
+/// a front.
+pub fn an_inventory_block_has_a_front()
+    ensures { InventoryBlocksHaveFronts }
+{}
+
+/// A volume that was just made is whole.
+pub fn a_new_volume_is_whole()
+    ensures { FreshIsWhole }
+{}

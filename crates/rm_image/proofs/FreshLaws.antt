@@ -1,0 +1,90 @@
+-- A new volume is whole: its blocks are zeros, which stand for no record, and its log is empty.
+use Rattle.std.proofs.Common.{◌≡◌, inl, ℕ, ◌+◌, ◌/◌, ◌%◌, ◌^◌, ◌≤◌, ◌<◌, [], replicate, refl, sym, ◌∙◌, arith}
+use Rattle.std.proofs.Math.Nat.{div-le_self}
+use Rattle.std.proofs.lemmas.List.{length-replicate, get_or-replicate}
+use Rattle.rm_types.specs.declared.areas.Area.TheVariants.{Data, Space}
+use Rattle.rm_outside.specs.Images.{Bytes, Image, Shows}
+use Rattle.rm_master.specs.Fields.{fresh_fields}
+use Rattle.rm_master.specs.Fresh.{IsZeroBelow, IsFresh}
+use Rattle.rm_image.specs.declared.TheConstants.{LSN_AT, COUNT_AT, FORM_AT, ENTRIES_AT, ENTRIES_IN_BYTE}
+use Rattle.rm_image.specs.Blocks.{block_at, IsDataBlock, IsInventoryBlock, entry_in}
+use Rattle.rm_image.specs.Whole.{IsLogSound, IsSoundImage, HasPage, HasEntries, blocks_of}
+use Rattle.rm_image.specs.Laws.{FreshIsWhole}
+
+-- no entry is in a byte of 0
+no_entry : (index : ℕ) → entry_in 0 index ≡ 0
+no_entry index =
+    let none : 0 / 4 ^ index ≡ 0 = omega (arith, div-le_self 0 (4 ^ index)) in
+    rw none refl
+
+module _ (area : Bytes) (len : ℕ) (cleared : IsZeroBelow area len) where
+  -- where the bytes are zeros, so many of them show
+  shows_zeros : (at count : ℕ) → at + count ≤ len → Shows area at (replicate count 0)
+  shows_zeros at count inside = record {
+    each = λ k below.
+        let within : k < count = omega (arith, below, length-replicate {A = ℕ} count 0) in
+        cleared.each (at + k) (omega arith) ∙ sym (get_or-replicate count k 0 0 within);
+  }
+
+  -- a block of zeros is a page's, with no record and no slot
+  zeros_are_page : (number : ℕ) → block_at (number + 1) ≤ len → IsDataBlock area (block_at number) 0 []
+  zeros_are_page number inside = record {
+    version = shows_zeros (block_at number + LSN_AT) 8 (omega (arith, inside));
+    count = shows_zeros (block_at number + COUNT_AT) 2 (omega (arith, inside));
+    few = omega arith;
+    places = λ number. 0;
+    each = λ number below. absurd (omega (arith, below));
+    apart = λ a b a_first below. absurd (omega (arith, below));
+  }
+
+  -- and one of the inventory, with no record and entries of 0
+  zeros_are_entries : (number : ℕ) → block_at (number + 1) ≤ len → IsInventoryBlock area (block_at number) 0 (λ index. 0)
+  zeros_are_entries number inside = record {
+    version = shows_zeros (block_at number + LSN_AT) 8 (omega (arith, inside));
+    form = cleared.each (block_at number + FORM_AT) (omega (arith, inside));
+    each = λ index below.
+        let byte : area (block_at number + ENTRIES_AT + index / ENTRIES_IN_BYTE) ≡ 0 = cleared.each _ (omega (arith, inside, below)) in
+        rw byte (no_entry (index % ENTRIES_IN_BYTE));
+  }
+
+module _ (pages : ℕ) (c : Image) (fresh : IsFresh pages c) where
+  -- no record is in the log
+  log_is_sound : IsLogSound pages []
+  log_is_sound = record { legal = tt; below = tt; room = omega arith }
+
+  -- no checkpoint is named
+  image_is_sound : IsSoundImage c (fresh_fields pages) []
+  image_is_sound = record {
+    master = fresh.fields;
+    log = record { stands = tt; closed = fresh.cleared.gate };
+    log_sound = log_is_sound;
+    checkpoint = inl refl;
+  }
+
+  -- each page has no record, and each block of the inventory has none
+  page_is_whole : (page : ℕ) → page < pages → HasPage c (fresh_fields pages) [] page
+  page_is_whole page inside = record {
+    version = 0;
+    slots = [];
+    redo = 0;
+    block = zeros_are_page (c Data) _ fresh.cleared.data_blocks page (omega (arith, inside));
+    redo_is = inl (refl, refl);
+    stands = (refl, refl);
+  }
+
+  entries_are_whole : (block : ℕ) → block < blocks_of pages → HasEntries c (fresh_fields pages) [] block
+  entries_are_whole block inside = record {
+    version = 0;
+    entries = λ index. 0;
+    redo = 0;
+    is_block = zeros_are_entries (c Space) _ fresh.cleared.space block (omega (arith, inside));
+    redo_is = inl (refl, refl);
+    stands = (refl, λ index below. refl);
+  }
+
+-- a new volume is whole
+pub fresh_is_whole : FreshIsWhole
+fresh_is_whole pages c fresh = record {
+  sound = record { fields = fresh_fields pages; batches = []; image = image_is_sound pages c fresh; copy = inl refl };
+  blocks = λ restored. record { pages = page_is_whole pages c fresh; blocks = entries_are_whole pages c fresh };
+}
