@@ -12,7 +12,7 @@ use Rattle.rm_model.specs.Session.{rows_of, Core, State, Step, Comes}
 use Rattle.rm_wal.specs.Tails.{LogValue}
 use Rattle.rm_restart.specs.Sound.{Holds}
 use Rattle.rm_engine.specs.At.{IsAt, IsCommitOf, LeftByTurn}
-use Rattle.rm_engine.specs.Runs.{acknowledged, rows_after, HasAcknowledged, open_of, IsWithin, IsAfter}
+use Rattle.rm_engine.specs.Runs.{acknowledged, rows_after, HasFirst, HasAcknowledged, open_of, IsWithin, IsAfter}
 use Rattle.rm_engine.proofs.Changed.{changes}
 use Rattle.rm_engine.proofs.Flushes.{holds_now}
 use Rattle.rm_engine.proofs.Runs.{acknowledged-snoc, rows_after-stays}
@@ -45,19 +45,20 @@ module _ (file_pages before : ℕ) (rows : Rows) (lines : List Line) (replies : 
       all = omega arith;
     }
 
-    busy_first : old.active ≡ true → (c : Image) → Holds ((before + acknowledged replies) + 1) (rows_of old.pages) c → HasAcknowledged before rows lines replies c
+    -- with the open transaction an image has one more than the acknowledged
+    pub busy_first : old.active ≡ true → (c : Image) → Holds ((before + acknowledged replies) + 1) (rows_of old.pages) c
+        → (first : HasFirst before rows lines replies c) × (first.count ≡ acknowledged replies + 1)
     busy_first busy c holds =
         let begun = begun_busy rows lines replies old after.behind busy in
         let shown : rows_of old.pages ≡ rows_after lines replies (acknowledged replies + 1) rows = after.behind.shown ∙ ap (λ (n : ℕ). rows_after lines replies n rows) begun in
-        let count : (before + acknowledged replies) + 1 ≡ before + (acknowledged replies + 1) = omega arith in
-        record {
-          first = record {
+        let count : (before + acknowledged replies) + 1 ≡ before + (acknowledged replies + 1) = omega arith in (
+          record {
             count = acknowledged replies + 1;
             began = omega (arith, begun);
             holds = subst (λ (n : ℕ). Holds n (rows_after lines replies (acknowledged replies + 1) rows) c) count (subst (λ (r : Rows). Holds ((before + acknowledged replies) + 1) r c) shown holds);
-          };
-          all = omega arith;
-        }
+          },
+          refl,
+        )
 
     -- what a turn may leave has them too, and maybe one more
     pub acknowledged_left : (asked : Line) (c : Image) → LeftByTurn (before + acknowledged replies) (rows_after lines replies (acknowledged replies) rows) old asked c → HasAcknowledged before rows lines replies c
@@ -68,7 +69,7 @@ module _ (file_pages before : ℕ) (rows : Rows) (lines : List Line) (replies : 
     acknowledged_left line.Begin c (inr one) = absurd one.0
     acknowledged_left (line.Insert name row) c (inr one) = absurd one.0
     acknowledged_left (line.Read read) c (inr one) = absurd one.0
-    acknowledged_left line.Commit c (inr one) = busy_first one.0 c one.1
+    acknowledged_left line.Commit c (inr one) = let has = busy_first one.0 c one.1 in record { first = has.0; all = omega (arith, has.1) }
 
   module _ (old new : State) (after : IsAfter file_pages before rows lines replies old.core log under inserts left) (asked : Line) (told : Reply) (step : Step old asked told new) where
     commit_within : (c : Image) → Holds ((before + acknowledged replies) + 1) (rows_of old.core.pages) c → Step old line.Commit told new → old.core.active ≡ true → IsWithin before rows (lines ++ line.Commit ∷ []) (replies ++ told ∷ []) c
@@ -76,18 +77,15 @@ module _ (file_pages before : ℕ) (rows : Rows) (lines : List Line) (replies : 
         let said : told ≡ reply.Committed = committed_reply told old.core new.core busy made.comes in
         let begun = begun_busy rows lines replies old.core after.behind busy in
         let one : acknowledged (told ∷ []) ≡ 1 = ap (λ (r : Reply). acknowledged (r ∷ [])) said in
-        let shown : rows_of old.core.pages ≡ rows_after lines replies (acknowledged replies + 1) rows = after.behind.shown ∙ ap (λ (n : ℕ). rows_after lines replies n rows) begun in
-        let kept : rows_after (lines ++ line.Commit ∷ []) (replies ++ told ∷ []) (acknowledged replies + 1) rows ≡ rows_after lines replies (acknowledged replies + 1) rows =
-        rows_after-stays lines replies line.Commit told (acknowledged replies + 1) rows after.same (omega (arith, begun)) (λ any. refl) in
-        let count : (before + acknowledged replies) + 1 ≡ before + (acknowledged replies + 1) = omega arith in
+        let has = busy_first old.core after busy c holds in
+        let kept = rows_after-stays lines replies line.Commit told has.0.count rows after.same (omega (arith, begun, has.1)) (λ any. refl) in
         record {
           first = record {
-            count = acknowledged replies + 1;
-            began = omega (arith, begun, more_begun rows lines replies old.core new.core line.Commit told after.same after.behind (changes old new line.Commit told made));
-            holds = subst (λ (n : ℕ). Holds n (rows_after (lines ++ line.Commit ∷ []) (replies ++ told ∷ []) (acknowledged replies + 1) rows) c) count
-                (subst (λ (r : Rows). Holds ((before + acknowledged replies) + 1) r c) (shown ∙ sym kept) holds);
+            count = has.0.count;
+            began = omega (arith, has.0.began, more_begun rows lines replies old.core new.core line.Commit told after.same after.behind (changes old new line.Commit told made));
+            holds = subst (λ (r : Rows). Holds (before + has.0.count) r c) (sym kept) has.0.holds;
           };
-          few = omega (arith, acknowledged-snoc replies told, one);
+          few = omega (arith, acknowledged-snoc replies told, one, has.1);
         }
 
     commit_case : (said : Line) → Step old said told new → (c : Image) → IsCommitOf old.core said → Holds ((before + acknowledged replies) + 1) (rows_of old.core.pages) c → IsWithin before rows (lines ++ said ∷ []) (replies ++ told ∷ []) c

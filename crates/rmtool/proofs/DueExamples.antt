@@ -1,5 +1,5 @@
 -- The definitions of what is due, on examples.
-use Rattle.std.proofs.Common.{◌≡◌, ℕ, ◌≤◌, List, [], ◌∷◌, get_or, length, codes, decimal, Option, Some, None, refl, sym, ap, subst, arith, lit≤}
+use Rattle.std.proofs.Common.{◌≡◌, ℕ, ◌≤◌, List, [], ◌∷◌, get_or, length, codes, decimal, Some, None, refl, sym, ap, subst, arith, lit≤}
 use Rattle.std.specs.Fmt.{digits}
 use Rattle.std.proofs.lemmas.Fmt.{decimal_is_IsNumeral, decimal_injective, first_decimal}
 use Rattle.std.proofs.lemmas.Str.Parse.{digit_at}
@@ -11,7 +11,6 @@ use Rattle.rm_types.specs.declared.numbers.TheConstants.{MAX_PAGES}
 use Rattle.rm_types.specs.declared.operations.Reply.{Reply}
 use Rattle.rm_types.specs.declared.operations.Reply.TheVariants as reply
 use Rattle.rm_master.specs.Fresh.{IsFresh}
-use Rattle.rmtool.specs.declared.commands.Command.{Command}
 use Rattle.rmtool.specs.declared.commands.Command.TheVariants as command
 use Rattle.rmtool.specs.declared.statuses.Status.{Status}
 use Rattle.rmtool.specs.declared.statuses.Status.TheVariants as status

@@ -1,5 +1,5 @@
 -- What is due for the lines of a script, on a volume that was opened.
-use Rattle.std.proofs.Common.{◌≡◌, inl, inr, ℕ, Bool, true, false, List, [], ◌++◌, Option, Result, Err, refl, sym, ap, ◌∙◌, subst, append_assoc, append-nil}
+use Rattle.std.proofs.Common.{◌≡◌, inl, inr, ℕ, Bool, true, false, List, [], ◌++◌, Option, Result, Err, sym, ap, ◌∙◌, subst, append_assoc, append-nil}
 use Rattle.std.specs.Prelude.{MatchBool}
 use Rattle.rm_types.specs.declared.areas.Area.{Area}
 use Rattle.rm_types.specs.declared.faults.Fault.TheVariants as fault
@@ -12,7 +12,7 @@ use Rattle.rm_outside.specs.Faults.{Rises}
 use Rattle.rm_outside.specs.Images.{Image}
 use Rattle.rm_outside.specs.Moments.{LeavesOnly, joined, weaker}
 use Rattle.rm_outside.specs.Streams.{Takes}
-use Rattle.rm_outside.proofs.StreamLemmas.{Takes-none, Takes-append}
+use Rattle.rm_outside.proofs.StreamLemmas.{Takes-append}
 use Rattle.rm_model.specs.Object.{Rows}
 use Rattle.rm_model.specs.Session.{State, opened}
 use Rattle.rm_master.specs.Slots.{IsUnmade}
@@ -33,9 +33,9 @@ use Rattle.rmtool.specs.declared.statuses.Status.TheVariants as status
 use Rattle.rmtool.specs.Status.{error_line, of_restart}
 use Rattle.rmtool.specs.Running.{Moves}
 use Rattle.rmtool.specs.Told.{Begins, is_sink, Owes}
-use Rattle.rmtool.specs.Volumes.{RefusedText}
 use Rattle.rmtool.specs.Turns.{RunTo, RunText, HasRunImages, LinesDue}
 use Rattle.rmtool.specs.Turning.{used_by, LeavesRun, Gathers}
+use Rattle.rmtool.proofs.VolumeLemmas.{owes_line, refused}
 
 -- a run of which more holds
 abbrev run_to_more : (first : State) (start : Used) (lines : List Line) (L M : List Line → List Reply → Option Line → Type 0) → ((done : List Line) (replies : List Reply) (next : Option Line) → L done replies next → M done replies next) → RunTo first start lines L → RunTo first start lines M
@@ -168,29 +168,7 @@ module _ (Due More : Status → List ℕ → Type 0) (a b : Option (List ℕ)) (
         );
       }
 
--- a volume that is not opened does not say that the sink failed
-not_sink : (why : RestartFault) → is_sink (of_restart why) ≡ false
-not_sink restart.NotMade = refl
-not_sink (restart.NeedsUndo txn) = refl
-not_sink (restart.Fault (fault.Volume area)) = refl
-not_sink (restart.Fault (fault.Damaged area at)) = refl
-not_sink restart.NoMemory = refl
-
 module _ {T : Type 0} (told : Type 0) (content : Image) (left leaves : Image → Type 0) (before now : ℕ) (past since : ℕ → Image → Type 0) (was is : Area → ℕ) (lines : List Line) (a : Option (List ℕ)) (sink_failed : Type 0) (result : Result T RestartFault) where
-  -- the line of a volume that was not opened
-  refused : (why : RestartFault) → result ≡ Err why
-      → (result ≡ Err restart.NotMade → told → IsUnmade content)
-      → ((area : Area) (at : ℕ) → result ≡ Err (restart.Fault (fault.Damaged area at)) → told → IsDamage content area at)
-      → ((area : Area) (at : ℕ) → result ≡ Err (restart.Fault (fault.Damaged area at)) → told → IsUnmade content → ⊥)
-      → ((txn : TxnId) → result ≡ Err (restart.NeedsUndo txn) → NeedsUndoOf told content txn.0)
-      → ((area : Area) → result ≡ Err (restart.Fault (fault.Volume area)) → Rises (was area) (is area))
-      → RefusedText told content (λ area. Rises (was area) (is area)) (of_restart why) (error_line (of_restart why))
-  refused restart.NotMade is_err not_made damaged made needs_undo cause = (not_made is_err, refl)
-  refused (restart.NeedsUndo txn) is_err not_made damaged made needs_undo cause = (needs_undo txn is_err, refl)
-  refused (restart.Fault (fault.Volume area)) is_err not_made damaged made needs_undo cause = (cause area is_err, refl)
-  refused (restart.Fault (fault.Damaged area at)) is_err not_made damaged made needs_undo cause = (made area at is_err, damaged area at is_err, refl)
-  refused restart.NoMemory is_err not_made damaged made needs_undo cause = refl
-
   -- the volume was not opened
   pub owes_unopened : (why : RestartFault) → result ≡ Err why
       → (result ≡ Err restart.NotMade → told → IsUnmade content)
@@ -201,11 +179,4 @@ module _ {T : Type 0} (told : Type 0) (content : Image) (left leaves : Image →
       → LeavesOnly before now past since left
       → Owes (LinesDue told content left leaves before now past since (λ area. Rises (was area) (is area)) lines) a a sink_failed (of_restart why)
   owes_unopened why is_err not_made damaged made needs_undo cause images =
-      let Due : Status → List ℕ → Type 0 = LinesDue told content left leaves before now past since (λ area. Rises (was area) (is area)) lines in
-      let answer = of_restart why in
-      let due : Due answer (error_line answer) = inl (images, refused why is_err not_made damaged made needs_undo cause) in
-      record {
-        text = [];
-        took = Takes-none a;
-        written = subst (λ (sink : Bool). MatchBool sink (sink_failed × ((other : Status) × (whole : List ℕ) × Due other whole × Begins (error_line answer) whole)) (Due answer (error_line answer))) (sym (not_sink why)) due;
-      }
+      owes_line (LinesDue told content left leaves before now past since (λ area. Rises (was area) (is area)) lines) a sink_failed why (inl (images, refused told content was is result why is_err not_made damaged made needs_undo cause))

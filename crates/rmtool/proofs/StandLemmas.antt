@@ -1,5 +1,5 @@
 -- Where a session stands behind its lines, and what its images have.
-use Rattle.std.proofs.Common.{◌≡◌, inl, inr, ℕ, ◌+◌, ◌≤◌, true, List, [], ◌∷◌, ◌++◌, Option, Some, ap, ◌∙◌, subst, arith}
+use Rattle.std.proofs.Common.{inl, inr, ℕ, ◌+◌, ◌≤◌, List, [], ◌∷◌, ◌++◌, Option, Some, arith}
 use Rattle.rm_types.specs.declared.lines.Line.{Line}
 use Rattle.rm_types.specs.declared.lines.Line.TheVariants as line
 use Rattle.rm_types.specs.declared.operations.Reply.{Reply}
@@ -8,14 +8,13 @@ use Rattle.rm_outside.specs.Moments.{LeavesOnly, started, joined, weaker}
 use Rattle.rm_model.specs.Object.{Rows}
 use Rattle.rm_model.specs.Session.{Core, Step, rows_of}
 use Rattle.rm_wal.specs.Tails.{LogValue}
-use Rattle.rm_restart.specs.Sound.{Holds}
 use Rattle.rm_engine.specs.declared.engine.Engine.{Engine}
 use Rattle.rm_engine.specs.At.{IsAt, LeftByTurn, count_after, committed_after}
 use Rattle.rm_engine.specs.Runs.{acknowledged, rows_after, IsWithin, IsAfter}
 use Rattle.rm_engine.proofs.Changed.{changes}
 use Rattle.rm_engine.proofs.After.{after_step}
-use Rattle.rm_engine.proofs.Behind.{begun_busy, within_stays}
-use Rattle.rm_engine.proofs.RunImages.{within_now, acknowledged_now, acknowledged_left, within_left, opened_after}
+use Rattle.rm_engine.proofs.Behind.{within_stays}
+use Rattle.rm_engine.proofs.RunImages.{within_now, acknowledged_now, busy_first, acknowledged_left, within_left, opened_after}
 use Rattle.rmtool.specs.Turns.{HasAsked}
 use Rattle.rmtool.specs.Turning.{StandsBehind, LeavesRun}
 
@@ -24,21 +23,6 @@ asked_within : (count : ℕ) (rows : Rows) (lines : List Line) (replies : List R
 asked_within count rows lines replies next c within = record { first = within.first; few = omega (arith, within.few) }
 
 module _ (pages count : ℕ) (rows : Rows) (lines : List Line) (replies : List Reply) (log : LogValue) (under inserts : ℕ) (left : Image → Type 0) (core : Core) (after : IsAfter pages count rows lines replies core log under inserts left) where
-  -- the one that a commit commits
-  commit_left : core.active ≡ true → (c : Image) → Holds ((count + acknowledged replies) + 1) (rows_of core.pages) c → HasAsked count rows lines replies (Some line.Commit) c
-  commit_left busy c holds =
-      let begun = begun_busy rows lines replies core after.behind busy in
-      let shown : rows_of core.pages ≡ rows_after lines replies (acknowledged replies + 1) rows = after.behind.shown ∙ ap (λ (n : ℕ). rows_after lines replies n rows) begun in
-      let total : (count + acknowledged replies) + 1 ≡ count + (acknowledged replies + 1) = omega arith in
-      record {
-        first = record {
-          count = acknowledged replies + 1;
-          began = omega (arith, begun);
-          holds = subst (λ (n : ℕ). Holds n (rows_after lines replies (acknowledged replies + 1) rows) c) total (subst (λ (r : Rows). Holds ((count + acknowledged replies) + 1) r c) shown holds);
-        };
-        few = omega arith;
-      }
-
   -- what a turn may leave was asked for
   asked_left : (asked : Line) (c : Image) → LeftByTurn (count + acknowledged replies) (rows_after lines replies (acknowledged replies) rows) core asked c → HasAsked count rows lines replies (Some asked) c
   asked_left asked c (inl holds) = record {
@@ -48,7 +32,9 @@ module _ (pages count : ℕ) (rows : Rows) (lines : List Line) (replies : List R
   asked_left line.Begin c (inr one) = absurd one.0
   asked_left (line.Insert name row) c (inr one) = absurd one.0
   asked_left (line.Read read) c (inr one) = absurd one.0
-  asked_left line.Commit c (inr one) = commit_left one.0 c one.1
+  asked_left line.Commit c (inr one) =
+      let has = busy_first pages count rows lines replies log under inserts left core after one.0 c one.1 in
+      record { first = has.0; few = omega (arith, has.1) }
 
 -- before the first line
 pub stands_none : (from : Engine) (left : Image → Type 0) (now : ℕ) (past : ℕ → Image → Type 0) → ((c : Image) → past now c → left c) → StandsBehind from from left left now now past past [] []
