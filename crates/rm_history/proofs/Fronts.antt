@@ -1,6 +1,6 @@
 -- What stands before the newest records of a history.
 use Rattle.std.proofs.Common.{[], ◌∷◌}
-use Rattle.rm_history.specs.Meaning.{FrontsAreInOrder, LegalFronts, LegalIsInOrder}
+use Rattle.rm_history.specs.Meaning.{EmptyIsLegal, FrontsAreInOrder, LegalFronts, LegalIsInOrder}
 
 -- what stands before the newest records is in order
 pub fronts_are_in_order : FrontsAreInOrder
@@ -16,3 +16,6 @@ legal_fronts (act ∷ newest) before legal = legal_fronts newest before legal.0
 pub legal_is_in_order : LegalIsInOrder
 legal_is_in_order [] legal = tt
 legal_is_in_order (act ∷ before) legal = (legal_is_in_order before legal.0, legal.1)
+
+pub empty_is_legal : EmptyIsLegal
+empty_is_legal = tt

@@ -16,6 +16,7 @@ pub mod ChangeLsns
 pub mod NetLaws
 pub mod WinnerLaws
 pub mod NeedSums
+pub mod NeedChains
 pub mod UndoTheorem
 pub mod Rollbacks
 pub mod AllPending

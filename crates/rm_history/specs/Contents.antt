@@ -1,7 +1,7 @@
 -- What a history says of pages and of the inventory.
-use Rattle.std.specs.Prelude.{ℕ, ◌==◌, ◌/◌, if◌then◌else◌, List, [], ◌∷◌, min, slice_index_or}
+use Rattle.std.specs.Prelude.{ℕ, ◌==◌, ◌/◌, if◌then◌else◌, List, [], ◌∷◌, min, slice_index_or, Option, Some, None}
 use Rattle.rm_types.specs.declared.slots.Slot.{Slot}
-use Rattle.rm_types.specs.declared.slots.Slot.TheVariants.{Vacant}
+use Rattle.rm_types.specs.declared.slots.Slot.TheVariants.{Vacant, Row}
 use Rattle.rm_types.specs.declared.numbers.TheConstants.{MAX_CATEGORY}
 use Rattle.rm_model.specs.Pages.{used, set_slot}
 use Rattle.rm_types.specs.declared.numbers.TheConstants.{BLOCK_PAGES}
@@ -11,6 +11,11 @@ use Rattle.rm_history.specs.Acts.{Act, History, changes, undoes, enters, commits
 -- what a slot holds: nothing past the directory
 abbrev pub slot_at : List Slot → ℕ → Slot
 slot_at slots number = slice_index_or slots number Vacant
+
+-- what a slot holds where there is such a row, or none
+abbrev pub slot_of : Option (List ℕ) → Slot
+slot_of None = Vacant
+slot_of (Some row) = Row row
 
 -- the slots of a page: each record that names a slot of it sets that slot
 abbrev pub page_of : History → ℕ → List Slot

@@ -11,3 +11,4 @@ pub mod Undoing
 pub mod Literal
 pub mod Meaning
 pub mod Batched
+pub mod Room

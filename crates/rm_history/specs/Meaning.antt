@@ -1,11 +1,11 @@
 -- What holds of all histories that are in order, and of all that are legal.
-use Rattle.std.specs.Prelude.{◌≡◌, ℕ, ◌+◌, ◌<◌, List, [], ◌∷◌, ◌++◌, reverse, ◌⊎◌}
+use Rattle.std.specs.Prelude.{◌≡◌, ℕ, ◌+◌, ◌-◌, ◌<◌, List, [], ◌∷◌, ◌++◌, reverse, ◌⊎◌}
 use Rattle.rm_types.specs.declared.numbers.Rid.{Rid}
-use Rattle.rm_model.specs.Pages.{row_at}
-use Rattle.rm_history.specs.Acts.{Change, History, enters, newest_lsn}
-use Rattle.rm_history.specs.Contents.{page_of, category_of, entry_of}
+use Rattle.rm_model.specs.Pages.{row_at, row_length}
+use Rattle.rm_history.specs.Acts.{Change, History, changes, enters, newest_lsn}
+use Rattle.rm_history.specs.Contents.{slot_at, slot_of, page_of, category_of, entry_of}
 use Rattle.rm_history.specs.Pending.{pending_of, all_pending, last_of, applied, rows_of_log, IsFinished, HasRecord}
-use Rattle.rm_history.specs.Needs.{on_page, need_for}
+use Rattle.rm_history.specs.Needs.{on_page, need_for, need_of}
 use Rattle.rm_history.specs.Rules.{IsInOrder, IsLegal}
 use Rattle.rm_history.specs.Undoing.{category_after, entry_for, undo_for, Undone, Ended, RolledBack, Restarted, losers_of, inventory_record, compensate_record, end_record, bytes_of, entry_bytes, undo_bytes}
 use Rattle.rm_history.specs.Literal.{net, rows_of_acts, IsNeed}
@@ -19,6 +19,10 @@ AreChained (newest ∷ before) = (newest.under ≡ last_of before) × AreChained
 abbrev pub IsChanged : List Change → Rid → Type 0
 IsChanged [] rid = ⊥
 IsChanged (newest ∷ before) rid = (newest.rid ≡ rid) ⊎ IsChanged before rid
+
+-- a log without records is legal
+abbrev pub EmptyIsLegal : Type 0
+EmptyIsLegal = IsLegal []
 
 -- what stands before the newest records is in order, and legal where they are
 abbrev pub FrontsAreInOrder : Type 0
@@ -46,6 +50,26 @@ PagesHoldWhatIsPending = (history : History) → IsInOrder history → (rid : Ri
 abbrev pub PagesHoldWhatIsCommitted : Type 0
 PagesHoldWhatIsCommitted = (history : History) → IsInOrder history → (rid : Rid) → ((txn : ℕ) → IsChanged (pending_of history txn) rid → ⊥)
     → row_at (page_of history rid.page) rid.slot ≡ rows_of_log history rid
+
+-- so where nothing is pending each page holds the committed rows, and nothing else
+abbrev pub IsSettled : History → ℕ → Type 0
+IsSettled history page = (number : ℕ) → slot_at (page_of history page) number ≡ slot_of (rows_of_log history (record { page = page; slot = number }))
+
+abbrev pub SettledWhenNothingIsPending : Type 0
+SettledWhenNothingIsPending = (history : History) → IsInOrder history → ((txn : ℕ) → pending_of history txn ≡ []) → (page : ℕ) → IsSettled history page
+
+-- each change has what its transaction needed on the page before it
+abbrev pub NeedsAreLogged : List Change → Type 0
+NeedsAreLogged [] = Unit {0}
+NeedsAreLogged (newest ∷ before) = (newest.need ≡ need_for (on_page newest.rid.page before)) × NeedsAreLogged before
+
+-- A need goes on by what a change gives up and takes, and back behind its undo; a finished transaction needs nothing.
+pub record NeedsGoOn : Type 0 where
+  pub changed : (before : History) (c : Change) → need_of (changes c ∷ before) c.txn c.rid.page ≡ (need_of before c.txn c.rid.page + row_length c.before) - row_length c.after
+  pub logged : (history : History) → IsInOrder history → (txn : ℕ) → NeedsAreLogged (pending_of history txn)
+  pub undone : (before new : History) (txn : ℕ) (last : Change) (rest : List Change) → IsInOrder before → pending_of before txn ≡ last ∷ rest → Undone before last new
+      → need_of new txn last.rid.page ≡ last.need
+  pub finished : (history : History) → IsInOrder history → (txn page : ℕ) → IsFinished history txn → need_of history txn page ≡ 0
 
 -- Undoing a transaction's last pending change gives a legal history: its page always has the room.
 pub record IsUndone (before : History) (txn : ℕ) (rest : List Change) (new : History) : Type 0 where

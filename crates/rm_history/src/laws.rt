@@ -1,6 +1,6 @@
 //! What holds of all histories: functions without code, whose contracts are laws.
 
-ghost use Rattle.rm_history.specs.Meaning.{FrontsAreInOrder, LegalFronts, LegalIsInOrder, PendingIsChained, PendingIsOfOne, PagesHoldWhatIsPending, PagesHoldWhatIsCommitted, NoUndoLacksRoom, RollbacksAreLegal, RestartsAreLegal, RestartsAreThere, UndoBytesGoDown, NetIsPending, RowsAreOfWinners, NeedIsTheMost};
+ghost use Rattle.rm_history.specs.Meaning.{NeedsGoOn, SettledWhenNothingIsPending, EmptyIsLegal, FrontsAreInOrder, LegalFronts, LegalIsInOrder, PendingIsChained, PendingIsOfOne, PagesHoldWhatIsPending, PagesHoldWhatIsCommitted, NoUndoLacksRoom, RollbacksAreLegal, RestartsAreLegal, RestartsAreThere, UndoBytesGoDown, NetIsPending, RowsAreOfWinners, NeedIsTheMost};
 
 /// What stands before the newest records of a history in order is in order.
 pub fn a_front_of_a_history_in_order_is_in_order()
@@ -75,4 +75,19 @@ pub fn rows_are_those_of_the_winners()
 /// A need is the most that any of the last changes gave up.
 pub fn a_need_is_the_most_of_all_suffixes()
     ensures { NeedIsTheMost }
+{}
+
+/// A log without records is legal.
+pub fn a_log_without_records_is_legal()
+    ensures { EmptyIsLegal }
+{}
+
+/// Where nothing is pending each page holds the committed rows, and nothing else.
+pub fn nothing_pending_means_settled()
+    ensures { SettledWhenNothingIsPending }
+{}
+
+/// A need goes on by what a change gives up and takes, and back behind its undo; a finished transaction needs nothing.
+pub fn needs_go_on()
+    ensures { NeedsGoOn }
 {}

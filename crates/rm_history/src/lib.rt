@@ -12,9 +12,10 @@ ghost use Rattle.rm_history.specs.Laws.{LogsAreOne, FrontsAreLegal, SettledWhenN
 
 pub use laws::{
     a_front_of_a_history_in_order_is_in_order, a_legal_history_is_in_order,
-    a_need_is_the_most_of_all_suffixes, a_page_holds_what_is_committed,
-    a_page_holds_what_is_pending, a_rollback_is_legal, every_history_can_be_restarted,
-    net_changes_are_pending, no_undo_lacks_room, pending_changes_are_a_chain,
+    a_log_without_records_is_legal, a_need_is_the_most_of_all_suffixes,
+    a_page_holds_what_is_committed, a_page_holds_what_is_pending, a_rollback_is_legal,
+    every_history_can_be_restarted, needs_go_on, net_changes_are_pending, no_undo_lacks_room,
+    nothing_pending_means_settled, pending_changes_are_a_chain,
     pending_changes_of_a_row_id_are_of_one_transaction, restart_is_legal,
     rows_are_those_of_the_winners, undo_bytes_go_down, what_a_legal_history_had_before_is_legal,
 };

@@ -1,6 +1,5 @@
 pub mod Blocks
 pub mod Whole
 pub mod Copies
-pub mod Room
 pub mod Fronts
 pub mod Laws

@@ -1,5 +1,5 @@
 -- Which row has room on which page.
-use Rattle.std.specs.Prelude.{ℕ, ◌+◌, ◌-◌, ◌*◌, ◌≤◌, ◌<◌, max, length}
+use Rattle.std.specs.Prelude.{ℕ, ◌+◌, ◌-◌, ◌*◌, ◌≤◌, ◌<◌, ◌==◌, if◌then◌else◌, max, length}
 use Rattle.rm_types.specs.declared.slots.TheConstants.{CAPACITY, SLOT_ENTRY}
 use Rattle.rm_model.specs.Pages.{used}
 use Rattle.rm_history.specs.declared.TheConstants.{CATEGORY_BYTES}
@@ -7,9 +7,9 @@ use Rattle.rm_history.specs.Acts.{History}
 use Rattle.rm_history.specs.Contents.{page_of}
 use Rattle.rm_history.specs.Needs.{need_of, sum_below}
 
--- what the undo of all transactions up to this number needs on the page, but for one of them
+-- what the undo of the other transactions below this number needs on the page
 abbrev pub others_need : History → ℕ → ℕ → ℕ → ℕ
-others_need history txn page last = sum_below (λ other. need_of history other page) last - need_of history txn page
+others_need history txn page last = sum_below (λ other. if other == txn then 0 else need_of history other page) last
 
 -- by its entry a page is not looked at for a row of so many bytes
 abbrev pub IsExcluded : ℕ → ℕ → Type 0
@@ -19,8 +19,8 @@ IsExcluded entry len = CAPACITY < CATEGORY_BYTES * entry + len
 abbrev pub growth_for : ℕ → ℕ → ℕ
 growth_for slots number = SLOT_ENTRY * ((number + 1) - slots)
 
--- A row of so many bytes fits into a slot, beside what others' undo needs and what the transaction's own needs; so does a row
--- that grows by so many.
+-- A row of so many bytes fits into a slot, beside what the others' undo needs, and with room for the transaction's own;
+-- so does a row that grows by so many.
 abbrev pub RowFits : History → ℕ → ℕ → ℕ → ℕ → ℕ → Type 0
 RowFits history others txn page number len =
     used (page_of history page) + growth_for (length (page_of history page)) number + others + max len (need_of history txn page) ≤ CAPACITY

@@ -1,0 +1,5 @@
+use Rattle.rm_history.proofs.Fronts.{empty_is_legal}
+use Rattle.rm_history.proofs.laws.a_log_without_records_is_legal.Goals as goal
+
+pub returns : goal.returns
+returns c = empty_is_legal
