@@ -1,5 +1,13 @@
-pub mod Onto
+pub mod Behind
 pub mod Settled
 pub mod Readings
-pub mod Undo
 pub mod Damages
+pub mod Fronts
+pub mod PendingSteps
+pub mod PendingLaws
+pub mod LeadsBack
+pub mod ChainSteps
+pub mod Chains
+pub mod Holding
+pub mod AllPending
+pub mod Losers

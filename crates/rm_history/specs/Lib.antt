@@ -1,6 +1,4 @@
 pub mod Logs
-pub mod Histories
-pub mod Legal
 pub mod Laws
 pub mod Acts
 pub mod Contents

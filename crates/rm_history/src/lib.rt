@@ -6,21 +6,13 @@
 //! of the definitions alone.
 #![tactic(auto)]
 
-ghost use Rattle.rm_history.specs.Laws.{LogsAreOne, FrontsAreLegal, SettledWhenNothingIsPending, PendingStands};
+ghost use Rattle.rm_history.specs.Laws.{LogsAreOne};
 
 /// The bytes of a batch before its records: the gate byte and the length.
 pub const BATCH_HEADER: u64 = 5;
 
 /// The most bytes of records in a batch.
 pub const MAX_BATCH: u64 = 2_097_152;
-
-/// What restart's undo of an insert adds to the log at most, in bytes: a compensation record that
-/// leaves the slot vacant, and the header of a batch.
-pub const UNDO_BYTES: u64 = 33;
-
-/// What the end of a transaction that is undone adds to the log at most, in bytes: an end record,
-/// and the header of a batch.
-pub const END_BYTES: u64 = 10;
 
 /// The bytes that a page uses within each of the inventory's categories.
 pub const CATEGORY_BYTES: u64 = 1_020;
@@ -31,19 +23,4 @@ pub const BLOCK_PAGES: u32 = 1_024;
 /// An area has one log.
 pub fn an_area_has_one_log()
     ensures { LogsAreOne }
-{}
-
-/// What stands before the newest records of a legal history is legal.
-pub fn a_front_of_a_legal_history_is_legal()
-    ensures { FrontsAreLegal }
-{}
-
-/// The pages of a legal history hold each row whose record is pending.
-pub fn what_is_pending_stands_in_its_page()
-    ensures { PendingStands }
-{}
-
-/// Where nothing is pending, the pages of a legal history hold the rows of the log, and no others.
-pub fn nothing_pending_is_settled()
-    ensures { SettledWhenNothingIsPending }
 {}

@@ -1,0 +1,18 @@
+-- What stands before the newest records of a history.
+use Rattle.std.proofs.Common.{[], ◌∷◌}
+use Rattle.rm_history.specs.Meaning.{FrontsAreInOrder, LegalFronts, LegalIsInOrder}
+
+-- what stands before the newest records is in order
+pub fronts_are_in_order : FrontsAreInOrder
+fronts_are_in_order [] before ordered = ordered
+fronts_are_in_order (act ∷ newest) before ordered = fronts_are_in_order newest before ordered.0
+
+-- what stands before the newest records is legal
+pub legal_fronts : LegalFronts
+legal_fronts [] before legal = legal
+legal_fronts (act ∷ newest) before legal = legal_fronts newest before legal.0
+
+-- a legal history is in order
+pub legal_is_in_order : LegalIsInOrder
+legal_is_in_order [] legal = tt
+legal_is_in_order (act ∷ before) legal = (legal_is_in_order before legal.0, legal.1)
