@@ -18,6 +18,7 @@ of_txn-newest last rest = rw (eq-eqb last.txn last.txn refl)
 
 -- ---- without a transaction's newest change, or without all of its changes
 
+-- without its newest it has the older ones
 of_txn-without_newest : (txn : ℕ) (all : List Change) → of_txn txn (without_newest all txn) ≡ older (of_txn txn all)
 of_txn-without_newest txn [] = refl
 of_txn-without_newest txn (newest ∷ before) = elim (cases_eq newest.txn txn) [
@@ -25,6 +26,7 @@ of_txn-without_newest txn (newest ∷ before) = elim (cases_eq newest.txn txn) [
   | inr other ↦ rw (ne_eqb newest.txn txn other) (rw (ne_eqb newest.txn txn other) (of_txn-without_newest txn before))
 ]
 
+-- without the newest of another it has all of its own
 of_txn-without_newest_other : (txn other : ℕ) (all : List Change) → (other ≡ txn → ⊥) → of_txn txn (without_newest all other) ≡ of_txn txn all
 of_txn-without_newest_other txn other [] differs = refl
 of_txn-without_newest_other txn other (newest ∷ before) differs = elim (cases_eq newest.txn other) [
@@ -33,6 +35,7 @@ of_txn-without_newest_other txn other (newest ∷ before) differs = elim (cases_
       (ap (λ (rest : List Change). cond (eqb newest.txn txn) (newest ∷ rest) rest) (of_txn-without_newest_other txn other before differs))
 ]
 
+-- without its changes it has none
 of_txn-without : (txn : ℕ) (all : List Change) → of_txn txn (without all txn) ≡ []
 of_txn-without txn [] = refl
 of_txn-without txn (newest ∷ before) = elim (cases_eq newest.txn txn) [
@@ -40,6 +43,7 @@ of_txn-without txn (newest ∷ before) = elim (cases_eq newest.txn txn) [
   | inr other ↦ rw (ne_eqb newest.txn txn other) (rw (ne_eqb newest.txn txn other) (of_txn-without txn before))
 ]
 
+-- without those of another it has all of its own
 of_txn-without_other : (txn other : ℕ) (all : List Change) → (other ≡ txn → ⊥) → of_txn txn (without all other) ≡ of_txn txn all
 of_txn-without_other txn other [] differs = refl
 of_txn-without_other txn other (newest ∷ before) differs = elim (cases_eq newest.txn other) [
@@ -50,6 +54,7 @@ of_txn-without_other txn other (newest ∷ before) differs = elim (cases_eq newe
 
 -- ---- what a transaction has pending
 
+-- behind an undo
 pending_of_undone : (txn : ℕ) (u : Undo) (mine all : List Change) → mine ≡ of_txn txn all
     → cond (eqb u.txn txn) (older mine) mine ≡ of_txn txn (without_newest all u.txn)
 pending_of_undone txn u mine all is = elim (cases_eq u.txn txn) [
@@ -57,13 +62,14 @@ pending_of_undone txn u mine all is = elim (cases_eq u.txn txn) [
   | inr other ↦ rw (ne_eqb u.txn txn other) (is ∙ sym (of_txn-without_newest_other txn u.txn all other))
 ]
 
+-- behind a commit or an end
 pending_of_finished : (txn : ℕ) (f : Finish) (mine all : List Change) → mine ≡ of_txn txn all → cond (eqb f.txn txn) [] mine ≡ of_txn txn (without all f.txn)
 pending_of_finished txn f mine all is = elim (cases_eq f.txn txn) [
   | inl same ↦ rw (eq-eqb f.txn txn same, same) (sym (of_txn-without txn all))
   | inr other ↦ rw (ne_eqb f.txn txn other) (is ∙ sym (of_txn-without_other txn f.txn all other))
 ]
 
--- is those of all that are its own
+-- a transaction's pending changes are those of all that are its own
 pub pending_of-all : (history : History) (txn : ℕ) → pending_of history txn ≡ of_txn txn (all_pending history)
 pending_of-all [] txn = refl
 pending_of-all (changes c ∷ before) txn = ap (λ (rest : List Change). cond (eqb c.txn txn) (c ∷ rest) rest) (pending_of-all before txn)
@@ -83,14 +89,17 @@ pending_of-none history none txn = pending_of-all history txn ∙ ap (of_txn txn
 
 -- ---- undoing the newest leaves the others
 
+-- without the newest of the list, for its transaction, the list has the rest
 pub without_newest-head : (last : Change) (rest : List Change) → without_newest (last ∷ rest) last.txn ≡ rest
 without_newest-head last rest = rw (eq-eqb last.txn last.txn refl)
 
+-- an entry leaves what is pending
 all_pending-with_entry : (right : Bool) (history : History) (last : Change)
     → all_pending (cond right history (enters (entry_for (some_lsn history) history last) ∷ history)) ≡ all_pending history
 all_pending-with_entry true history last = refl
 all_pending-with_entry false history last = refl
 
+-- so the undo that is left is that of the rest
 pub undo_bytes_go_down : UndoBytesGoDown
 undo_bytes_go_down history last rest ordered is =
     ap (λ (all : List Change). without_newest all last.txn)

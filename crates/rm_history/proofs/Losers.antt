@@ -1,5 +1,5 @@
 -- The losers of a history are the transactions that have a record and are not finished.
-use Rattle.std.proofs.Common.{◌≡◌, ◌⊎◌, inl, inr, ℕ, ◌<◌, List, [], ◌∷◌, refl, sym, subst, ◌∙◌, arith}
+use Rattle.std.proofs.Common.{◌≡◌, ◌⊎◌, inl, inr, ℕ, ◌<◌, List, [], ◌∷◌, refl, sym, ap, subst, ◌∙◌, arith}
 use Rattle.std.proofs.lemmas.Bool.{cases_eq, cases_lt, eq-eqb, ne_eqb, lt-ltb, le-ltb}
 use Rattle.rm_history.specs.Acts.{History, changes, undoes, enters, commits, ends, lists}
 use Rattle.rm_history.specs.Pending.{IsFinished, HasRecord}
@@ -38,7 +38,7 @@ without_number_cases P n first rest same other = elim (cases_eq n first) [
 ]
 
 -- the number is among those with it
-with_number-there : (n : ℕ) (all : List ℕ) → IsAmong (with_number n all) n
+pub with_number-there : (n : ℕ) (all : List ℕ) → IsAmong (with_number n all) n
 with_number-there n [] = inl refl
 with_number-there n (first ∷ rest) =
     with_number_cases (λ l. IsAmong l n) n first rest (λ below. inl refl) (λ same. inl (sym same)) (λ above. inr (with_number-there n rest))
@@ -62,6 +62,15 @@ with_number-only n k (first ∷ rest) =
       | inr there ↦ elim (with_number-only n k rest there) [ inl is ↦ inl is | inr had ↦ inr (inr had) ]
     ])
 
+-- numbers that rise are the same with one of them
+pub with_number-kept : (n : ℕ) (all : List ℕ) → Rise all → IsAmong all n → with_number n all ≡ all
+with_number-kept n [] rise among = absurd among
+with_number-kept n (first ∷ rest) rise (inl here) = rw (le-ltb n first (omega (arith, here)), eq-eqb n first (sym here))
+with_number-kept n (first ∷ rest) rise (inr there) =
+    let above : first < n = rise.0 n there in
+    rw (le-ltb n first (omega arith), ne_eqb n first (λ same. let less : n ≡ first = same in absurd (omega arith))) (ap (λ (l : List ℕ). first ∷ l) (with_number-kept n rest rise.1 there))
+
+-- numbers that rise do so with one more
 with_number-rise : (n : ℕ) (all : List ℕ) → Rise all → Rise (with_number n all)
 with_number-rise n [] rise = (λ k. elim [ ], tt)
 with_number-rise n (first ∷ rest) rise =
@@ -93,6 +102,7 @@ without_number-gone n (first ∷ rest) rise =
     (λ same among. let more : first < n = rise.0 n among in omega arith)
     (λ other. elim [ inl here ↦ other (sym here) | inr there ↦ without_number-gone n rest rise.1 there ])
 
+-- and with one less
 without_number-rise : (n : ℕ) (all : List ℕ) → Rise all → Rise (without_number n all)
 without_number-rise n [] rise = tt
 without_number-rise n (first ∷ rest) rise =
@@ -100,6 +110,7 @@ without_number-rise n (first ∷ rest) rise =
 
 -- ---- the losers of a history
 
+-- they stand in order of their ids, each once
 pub losers_rise : (history : History) → Rise (losers_of history)
 losers_rise [] = tt
 losers_rise (changes c ∷ before) = with_number-rise c.txn (losers_of before) (losers_rise before)
@@ -140,6 +151,7 @@ losers_are_all (commits f ∷ before) txn = loser_less f.txn txn before (losers_
 losers_are_all (ends f ∷ before) txn = loser_less f.txn txn before (losers_are_all before txn)
 losers_are_all (lists l ∷ before) txn = losers_are_all before txn
 
+-- a record is one of the transaction that it makes a loser
 record_more : (named txn : ℕ) (before : History) → (IsAmong (losers_of before) txn → HasRecord before txn)
     → IsAmong (with_number named (losers_of before)) txn → (named ≡ txn) ⊎ HasRecord before txn
 record_more named txn before known loses = elim (with_number-only named txn (losers_of before) loses) [ inl now ↦ inl now | inr earlier ↦ inr (known earlier) ]
@@ -154,6 +166,7 @@ losers_have_records (commits f ∷ before) txn = λ loses. inr (losers_have_reco
 losers_have_records (ends f ∷ before) txn = λ loses. inr (losers_have_records before txn (without_number-only f.txn txn (losers_of before) loses))
 losers_have_records (lists l ∷ before) txn = losers_have_records before txn
 
+-- a record is of a transaction that is not finished
 unfinished_more : (named txn : ℕ) (before : History) → (IsFinished before named → ⊥) → (IsAmong (losers_of before) txn → IsFinished before txn → ⊥)
     → IsAmong (with_number named (losers_of before)) txn → IsFinished before txn → ⊥
 unfinished_more named txn before unfinished known loses finished = elim (with_number-only named txn (losers_of before) loses) [
@@ -161,6 +174,7 @@ unfinished_more named txn before unfinished known loses finished = elim (with_nu
   | inr earlier ↦ known earlier finished
 ]
 
+-- a finish takes its transaction from the losers
 unfinished_less : (named txn : ℕ) (before : History) → (IsAmong (losers_of before) txn → IsFinished before txn → ⊥)
     → IsAmong (without_number named (losers_of before)) txn → (named ≡ txn) ⊎ IsFinished before txn → ⊥
 unfinished_less named txn before known loses (inl now) =

@@ -7,7 +7,7 @@ use Rattle.std.proofs.lemmas.Nat.{from_be_bytes-to_be_bytes_4}
 use Rattle.rm_outside.specs.Images.{Bytes, Shows}
 use Rattle.rm_outside.proofs.ShowsLemmas.{shows_front, shows_back, shows_once}
 use Rattle.rm_record.specs.declared.records.LogRecord.{LogRecord}
-use Rattle.rm_record.specs.declared.records.LogRecord.TheVariants.{Insert}
+use Rattle.rm_record.specs.declared.records.LogRecord.TheVariants.{Insert, Commit}
 use Rattle.rm_record.specs.Records.{spelling, spelling_all, IsRecord}
 use Rattle.rm_record.proofs.Decoding.{spellings_are_apart}
 use Rattle.rm_history.specs.Logs.{Batch, gate_of, body_of, IsBatch, Stands, HasLog}

@@ -1,13 +1,13 @@
 -- What holds of all histories that are in order, and of all that are legal.
-use Rattle.std.specs.Prelude.{◌≡◌, ℕ, List, [], ◌∷◌, ◌++◌, reverse, ◌⊎◌}
+use Rattle.std.specs.Prelude.{◌≡◌, ℕ, ◌+◌, List, [], ◌∷◌, ◌++◌, reverse, ◌⊎◌}
 use Rattle.rm_types.specs.declared.numbers.Rid.{Rid}
 use Rattle.rm_model.specs.Pages.{row_at}
-use Rattle.rm_history.specs.Acts.{Change, History}
+use Rattle.rm_history.specs.Acts.{Act, Change, History}
 use Rattle.rm_history.specs.Contents.{page_of, category_of, entry_of}
 use Rattle.rm_history.specs.Pending.{pending_of, all_pending, last_of, applied, rows_of_log, IsFinished, HasRecord}
-use Rattle.rm_history.specs.Needs.{need_for}
+use Rattle.rm_history.specs.Needs.{on_page, need_for}
 use Rattle.rm_history.specs.Rules.{IsInOrder, IsLegal}
-use Rattle.rm_history.specs.Undoing.{Undone, RolledBack, Restarted, with_undo}
+use Rattle.rm_history.specs.Undoing.{Undone, RolledBack, Restarted, with_undo, undo_bytes, bytes_of, compensate_record, undo_for}
 use Rattle.rm_history.specs.Literal.{net, rows_of_acts, IsNeed}
 
 -- each change names the next one as the pending record below it, and the oldest names none

@@ -1,11 +1,12 @@
 -- What the log of an image is while a flush goes on, and after it.
-use Rattle.std.proofs.Common.{◌≡◌, ◌⊎◌, inl, inr, ℕ, ◌+◌, ◌<◌, List, [], ◌∷◌, ◌++◌, length, sym, ap, subst, ◌∙◌, arith, length-append, append_assoc}
+use Rattle.std.proofs.Common.{◌≡◌, ◌⊎◌, inl, inr, ℕ, ◌+◌, ◌<◌, ◌≤◌, List, [], ◌∷◌, ◌++◌, length, refl, sym, ap, subst, ◌∙◌, arith, length-append, append_assoc}
 use Rattle.std.specs.Int.{to_be_bytes, w32}
+use Rattle.std.specs.List.{AllByRecursion}
 use Rattle.std.proofs.lemmas.Bool.{cases_eq}
 use Rattle.rm_types.specs.declared.areas.Area.TheVariants.{Log}
 use Rattle.rm_outside.specs.Images.{Bytes, Image, Shows}
 use Rattle.rm_outside.proofs.ShowsLemmas.{shows_front, shows_back}
-use Rattle.rm_record.specs.Records.{spelling_all}
+use Rattle.rm_record.specs.Records.{IsRecord, spelling_all}
 use Rattle.rm_history.specs.Logs.{Batch, gate_of, body_of, IsInRange, IsBatch, Stands, HasLog}
 use Rattle.rm_wal.specs.Flushing.{FlushStep, ComesByFlush, IsFlushed, Tails, HasEither, written_tail}
 

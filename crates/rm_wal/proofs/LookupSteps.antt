@@ -1,9 +1,10 @@
 -- Which record stands where bytes were read.
-use Rattle.std.proofs.Common.{◌≡◌, ℕ, List, ◌++◌, length, subst, sym, ◌∙◌, arith}
+use Rattle.std.proofs.Common.{◌≡◌, ℕ, ◌≤◌, List, ◌++◌, length, subst, sym, ◌∙◌, arith}
 use Rattle.rm_outside.specs.Images.{Bytes, Shows}
 use Rattle.rm_outside.proofs.ShowsLemmas.{shows_front}
 use Rattle.rm_record.specs.declared.records.LogRecord.{LogRecord}
-use Rattle.rm_record.specs.Records.{spelling}
+use Rattle.rm_record.specs.Records.{spelling, IsRecord}
+use Rattle.rm_record.proofs.SizeLaws.{spellings_are_short}
 use Rattle.rm_wal.specs.Batches.{BeginsWithNone}
 use Rattle.rm_wal.specs.Lookups.{AreWithin, HasNoneAt}
 use Rattle.rm_wal.proofs.BatchSteps.{none_stands}

@@ -21,7 +21,11 @@ use std::alloc::Global;
 
 // Bytes of area Log from that offset on: enough for any record that stands there. A record that is no checkpoint is read
 // by one call, and a short one.
-fn read_enough<V: Volume>(alloc: Global, volume: &mut V, at: u64) -> Result<Vec<u8>, StoreFault>
+fn read_enough<V: Volume>(
+    alloc: Global,
+    volume: &mut V,
+    at: u64,
+) -> Result<Vec<u8>, StoreFault>
     requires { at ≤ MAX_LOG }
     ensures bytes { IfOk result (λ bytes. IsTrue V.tells → Shows (V.content volume.old Area.Log) at bytes.items) }
     ensures enough { IfOk result (λ bytes. IsTrue V.tells → AreWithin (V.content volume.old Area.Log) at (vec_len bytes)) }

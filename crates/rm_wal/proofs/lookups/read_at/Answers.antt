@@ -1,4 +1,4 @@
-use Rattle.std.proofs.Common.{drop}
+use Rattle.std.proofs.Common.{drop, ◌∙◌}
 use Rattle.std.proofs.lemmas.Result.{err_from_is_err_and}
 use Rattle.rm_wal.proofs.LookupSteps.{is_found, none_there}
 use Rattle.rm_wal.proofs.lookups.read_at.Goals as goal

@@ -1,4 +1,5 @@
-use Rattle.std.proofs.Common.{length, rules}
+use Rattle.std.proofs.Common.{ℕ, ◌<◌, length, List, rules, ◌≡◌, arith}
+use Rattle.rm_outside.specs.Images.{Image}
 use Rattle.rm_outside.specs.Moments.{LeavesOnly, weaker}
 use Rattle.rm_history.specs.Logs.{IsInRange}
 use Rattle.rm_wal.specs.Flushing.{ComesByFlush, IsFlushed, written_tail}
