@@ -1,4 +1,5 @@
 pub mod Behind
+pub mod Told
 pub mod Settled
 pub mod Readings
 pub mod Damages

@@ -6,7 +6,7 @@
 //! of the definitions alone.
 #![tactic(auto)]
 
-ghost use Rattle.rm_history.specs.Laws.{LogsAreOne};
+ghost use Rattle.rm_history.specs.Laws.{LogsAreOne, ActsTellRecords};
 
 /// The bytes of a batch before its records: the gate byte and the length.
 pub const BATCH_HEADER: u64 = 5;
@@ -23,4 +23,9 @@ pub const BLOCK_PAGES: u32 = 1_024;
 /// An area has one log.
 pub fn an_area_has_one_log()
     ensures { LogsAreOne }
+{}
+
+/// What a record does, with its LSN, tells the record: a history of acts has all that its records have.
+pub fn an_act_tells_its_record()
+    ensures { ActsTellRecords }
 {}
