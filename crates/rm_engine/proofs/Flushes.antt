@@ -1,5 +1,5 @@
 -- What a flush and an append make of where a session stands.
-use Rattle.std.proofs.Common.{◌≡◌, ◌⊎◌, inl, inr, ℕ, ◌+◌, ◌-◌, ◌*◌, ◌<◌, ◌≤◌, true, false, List, [], ◌∷◌, ◌++◌, length, refl, sym, ap, subst, ◌∙◌, arith, length-append}
+use Rattle.std.proofs.Common.{◌≡◌, ◌⊎◌, inl, inr, ℕ, ◌+◌, ◌-◌, ◌<◌, ◌≤◌, true, false, List, [], ◌∷◌, ◌++◌, length, refl, sym, ap, subst, ◌∙◌, arith, length-append}
 use Rattle.std.specs.List.{AllByRecursion}
 use Rattle.std.proofs.lemmas.Grind.{flat_map-append}
 use Rattle.std.proofs.lemmas.Bool.{true≢false}
@@ -14,16 +14,17 @@ use Rattle.rm_model.specs.Session.{rows_of, set_row, IsPlaceFor, Core}
 use Rattle.rm_record.specs.declared.records.LogRecord.{LogRecord}
 use Rattle.rm_record.specs.declared.records.LogRecord.TheVariants.{Insert, Commit}
 use Rattle.rm_record.specs.Records.{spelling, spelling_all, IsRecord}
-use Rattle.rm_history.specs.declared.TheConstants.{BATCH_HEADER, UNDO_BYTES, END_BYTES}
+use Rattle.rm_history.specs.declared.TheConstants.{BATCH_HEADER}
 use Rattle.rm_history.specs.Logs.{Batch, gate_of, HasLog}
-use Rattle.rm_history.specs.Histories.{Change, history_of, pending, rows_of_log, commits}
-use Rattle.rm_history.specs.Legal.{undo_bytes_of}
-use Rattle.rm_history.proofs.Onto.{onto-snoc}
-use Rattle.rm_history.proofs.Undo.{undo_bytes-one, undo_bytes-none}
+use Rattle.rm_history.specs.Acts.{act_at, newest_lsn}
+use Rattle.rm_history.specs.Pending.{rows_of_log, commit_count}
+use Rattle.rm_history.specs.Batched.{acts_of_batches}
+use Rattle.rm_history.proofs.Behind.{acts_behind-snoc, newest_below, newest_of_batches}
 use Rattle.rm_wal.specs.Tails.{LogValue, end_of}
 use Rattle.rm_wal.specs.Flushing.{ComesByFlush, Tails, HasEither, written_tail}
 use Rattle.rm_master.specs.Slots.{HasFields}
 use Rattle.rm_restart.specs.Sound.{IsImageOf, IsSoundLog, Holds}
+use Rattle.rm_restart.proofs.PlainUndo.{undo_bytes-one, undo_bytes-none}
 use Rattle.rm_engine.specs.Numbers.{IsReady}
 use Rattle.rm_engine.specs.At.{IsAtHistory, IsAt, whole_history}
 use Rattle.rm_engine.proofs.Steps.{begun, inserted, committed}
@@ -39,7 +40,7 @@ image_with_log pages batches others d c image same has = record {
 }
 
 pub holds_of : (pages count : ℕ) (rows : Rows) (batches : List Batch) (c : Image) → IsImageOf pages batches c → IsSoundLog pages batches
-    → commits (history_of batches) ≡ count → rows_of_log (history_of batches) ≡ rows → Holds count rows c
+    → commit_count (acts_of_batches batches) ≡ count → rows_of_log (acts_of_batches batches) ≡ rows → Holds count rows c
 holds_of pages count rows batches c image sound counted same = record {
   sound = record { pages = pages; batches = batches; image = image; sound_log = sound };
   commits_are = counted;
@@ -53,10 +54,6 @@ spelling_all-snoc records next = flat_map-append spelling records (next ∷ []) 
 all-snoc : (records : List LogRecord) (next : LogRecord) → AllByRecursion IsRecord records → IsRecord next → AllByRecursion IsRecord (records ++ next ∷ [])
 all-snoc [] next all is = (is, tt)
 all-snoc (first ∷ records) next all is = (all.0, all-snoc records next all.1 is)
-
-undo_bound : (changes : List Change) → undo_bytes_of changes ≤ UNDO_BYTES * length changes + END_BYTES
-undo_bound [] = omega arith
-undo_bound (newest ∷ before) = omega arith
 
 module _ (pages count : ℕ) (rows : Rows) (core : Core) (log : LogValue) (under inserts : ℕ) (left : Image → Type 0) (at : IsAt pages count rows core log under inserts left) where
   -- what a crash may leave has these rows
@@ -77,12 +74,12 @@ module _ (pages count : ℕ) (rows : Rows) (core : Core) (log : LogValue) (under
   sound_flushed : IsReady core log inserts → core.active ≡ true → 0 < length log.tail → IsSoundLog pages (at.tail ∷ at.batches)
   sound_flushed ready active some =
       let open_now = at.at_history.busy active in
-      let undo = undo_bytes-one (whole_history at.batches at.tail) (core.next - 1) open_now.others in
-      let bound = undo_bound (pending (whole_history at.batches at.tail) (core.next - 1)) in
+      let undo = undo_bytes-one (whole_history at.batches at.tail) at.at_history.in_order at.at_history.plain (core.next - 1) open_now.others in
       record {
-        legal = at.at_history.legal;
+        in_order = at.at_history.in_order;
+        plain = at.at_history.plain;
         below = at.at_history.below;
-        room = omega (arith, undo, bound, open_now.inserts_are, end_is, ready.room_behind active some, ready.limit);
+        room = omega (arith, undo, open_now.inserts_are, end_is, ready.room_behind active some, ready.limit);
       }
 
   -- what a crash during such a flush may leave has the same rows
@@ -134,12 +131,16 @@ module _ (pages count : ℕ) (rows : Rows) (core : Core) (log : LogValue) (under
   next_lsn : gate_of at.batches + BATCH_HEADER + length (spelling_all at.tail) ≡ end_of log
   next_lsn = omega (arith, at.batch_is, ap (λ (l : List ℕ). length l) at.tail_is)
 
+  -- the LSNs so far are below it
+  above : newest_lsn (whole_history at.batches at.tail) < end_of log
+  above = omega (arith, newest_below (acts_of_batches at.batches) (gate_of at.batches + BATCH_HEADER) at.tail (newest_of_batches at.batches), next_lsn)
+
   -- the history with a record of this LSN
-  grown : (lsn : Lsn) (next : LogRecord) → lsn.0 ≡ end_of log → whole_history at.batches (at.tail ++ next ∷ []) ≡ record { lsn = lsn; what = next } ∷ whole_history at.batches at.tail
+  grown : (lsn : ℕ) (next : LogRecord) → lsn ≡ end_of log → whole_history at.batches (at.tail ++ next ∷ []) ≡ act_at lsn next ∷ whole_history at.batches at.tail
   grown lsn next is =
-      let same : gate_of at.batches + BATCH_HEADER + length (spelling_all at.tail) ≡ lsn.0 = next_lsn ∙ sym is in
-      onto-snoc (history_of at.batches) (gate_of at.batches + BATCH_HEADER) at.tail next
-      ∙ ap (λ (n : ℕ). record { lsn = record { 0 = n }; what = next } ∷ whole_history at.batches at.tail) same
+      let same : gate_of at.batches + BATCH_HEADER + length (spelling_all at.tail) ≡ lsn = next_lsn ∙ sym is in
+      acts_behind-snoc (acts_of_batches at.batches) (gate_of at.batches + BATCH_HEADER) at.tail next
+      ∙ ap (λ (n : ℕ). act_at n next ∷ whole_history at.batches at.tail) same
 
   -- a row is put, and its record is in the tail
   pub at_inserted : (lsn : Lsn) (txn : TxnId) (last : Lsn) (rid : Rid) (row : List ℕ) → core.active ≡ true → IsPlaceFor core.pages (length row) rid → txn.0 ≡ core.next - 1 → last.0 ≡ under → 1 ≤ core.next
@@ -156,8 +157,8 @@ module _ (pages count : ℕ) (rows : Rows) (core : Core) (log : LogValue) (under
     commits_stand = at.commits_stand;
     rows_stand = at.rows_stand;
     nothing_behind = λ idle. absurd (true≢false (sym active ∙ idle));
-    at_history = subst (IsAtHistory pages count rows (record core { pages = set_row core.pages rid row }) lsn.0 (inserts + 1)) (sym (grown lsn (Insert txn last rid 0 row) lsn_is))
-        (inserted pages count rows core under inserts (whole_history at.batches at.tail) at.at_history lsn txn last rid row active place txn_is last_is some_id);
+    at_history = subst (IsAtHistory pages count rows (record core { pages = set_row core.pages rid row }) lsn.0 (inserts + 1)) (sym (grown lsn.0 (Insert txn last rid 0 row) lsn_is))
+        (inserted pages count rows core under inserts (whole_history at.batches at.tail) at.at_history lsn.0 txn last rid row active place txn_is last_is some_id (omega (arith, above, lsn_is)));
   }
 
   -- the transaction's commit record is put behind the tail
@@ -185,15 +186,16 @@ module _ (pages count : ℕ) (rows : Rows) (core : Core) (log : LogValue) (under
 
     after : IsAtHistory pages (count + 1) (rows_of core.pages) (record core { active = false }) under inserts (whole_history at.batches closing)
     after =
-        subst (IsAtHistory pages (count + 1) (rows_of core.pages) (record core { active = false }) under inserts) (sym (grown (record { 0 = end_of log }) (Commit txn) refl))
-        (committed pages count rows core under inserts (whole_history at.batches at.tail) at.at_history (record { 0 = end_of log }) txn active txn_is some_id)
+        subst (IsAtHistory pages (count + 1) (rows_of core.pages) (record core { active = false }) under inserts) (sym (grown (end_of log) (Commit txn) refl))
+        (committed pages count rows core under inserts (whole_history at.batches at.tail) at.at_history (end_of log) txn active txn_is some_id above)
 
     sound_closing : IsSoundLog pages (closing ∷ at.batches)
     sound_closing =
-        let none = undo_bytes-none (whole_history at.batches closing) (after.idle refl).none in
+        let none = undo_bytes-none (whole_history at.batches closing) after.in_order after.plain (after.idle refl).none in
         let size : length (log.tail ++ spelling (Commit txn)) ≡ length log.tail + 5 = length-append log.tail (spelling (Commit txn)) in
         record {
-          legal = after.legal;
+          in_order = after.in_order;
+          plain = after.plain;
           below = after.below;
           room = omega (arith, none, end_closing, size, ready.room active, ready.limit);
         }

@@ -13,38 +13,43 @@ use Rattle.rm_record.specs.Records.{spelling_all, IsRecord}
 use Rattle.rm_wal.specs.Tails.{LogValue}
 use Rattle.rm_history.specs.declared.TheConstants.{BATCH_HEADER}
 use Rattle.rm_history.specs.Logs.{Batch, gate_of}
-use Rattle.rm_history.specs.Histories.{History, onto, history_of, page_of, pending, last_of, applied, rows_of_log, commits, greatest_id, IsFinished}
-use Rattle.rm_history.specs.Legal.{IsLegal, AreBelow}
+use Rattle.rm_history.specs.Acts.{History}
+use Rattle.rm_history.specs.Contents.{page_of}
+use Rattle.rm_history.specs.Pending.{pending_of, last_of, applied, rows_of_log, commit_count, greatest_txn, IsFinished}
+use Rattle.rm_history.specs.Rules.{IsInOrder}
+use Rattle.rm_history.specs.Batched.{acts_behind, acts_of_batches, AreBelow}
+use Rattle.rm_restart.specs.Plain.{ArePlain}
 use Rattle.rm_restart.specs.Sound.{IsImageOf, IsSoundLog, Holds}
 
 -- The session's transaction has that id and has not committed; nothing else is pending.
 pub record IsOpen (history : History) (id : ℕ) (pages : List (List Slot)) (rows : Rows) (under inserts : ℕ) : Type 0 where
   pub unfinished : IsFinished history id → ⊥
-  pub others : (other : ℕ) → (other ≡ id → ⊥) → pending history other ≡ []
-  pub under_is : under ≡ last_of (pending history id)
-  pub inserts_are : inserts ≡ length (pending history id)
-  pub shown : rows_of pages ≡ applied rows (pending history id)
+  pub others : (other : ℕ) → (other ≡ id → ⊥) → pending_of history other ≡ []
+  pub under_is : under ≡ last_of (pending_of history id)
+  pub inserts_are : inserts ≡ length (pending_of history id)
+  pub shown : rows_of pages ≡ applied rows (pending_of history id)
 
 -- Nothing is pending, and the pages hold the rows.
 pub record IsIdle (history : History) (pages : List (List Slot)) (rows : Rows) : Type 0 where
-  pub none : (id : ℕ) → pending history id ≡ []
+  pub none : (id : ℕ) → pending_of history id ≡ []
   pub shown : rows_of pages ≡ rows
 
--- The session's pages are those of the history, which is legal, and has so many commits and these rows.
+-- The session's pages are those of the history, which is in order and plain, and has so many commits and these rows.
 pub record IsAtHistory (file_pages count : ℕ) (rows : Rows) (core : Core) (under inserts : ℕ) (history : History) : Type 0 where
-  pub legal : IsLegal history
+  pub in_order : IsInOrder history
+  pub plain : ArePlain history
   pub below : AreBelow file_pages history
   pub length_is : length core.pages ≡ file_pages
   pub pages_are : (page : ℕ) → page < file_pages → page_at core.pages page ≡ page_of history page
-  pub ids : greatest_id history < core.next
-  pub commits_are : commits history ≡ count
+  pub ids : greatest_txn history < core.next
+  pub commits_are : commit_count history ≡ count
   pub rows_are : rows_of_log history ≡ rows
   pub idle : core.active ≡ false → IsIdle history core.pages rows
   pub busy : core.active ≡ true → IsOpen history (core.next - 1) core.pages rows under inserts
 
 -- the history of the batches that stand, and of the tail behind them
 abbrev pub whole_history : List Batch → Batch → History
-whole_history batches tail = onto (history_of batches) (gate_of batches + BATCH_HEADER) tail
+whole_history batches tail = acts_behind (acts_of_batches batches) (gate_of batches + BATCH_HEADER) tail
 
 -- The session stands behind so many commits, which left these rows; each image that a crash may leave has them.
 pub record IsAt (file_pages count : ℕ) (rows : Rows) (core : Core) (log : LogValue) (under inserts : ℕ) (left : Image → Type 0) : Type 0 where
@@ -55,8 +60,8 @@ pub record IsAt (file_pages count : ℕ) (rows : Rows) (core : Core) (log : LogV
   pub records : AllByRecursion IsRecord tail
   pub sound : IsSoundLog file_pages batches
   pub images : (c : Image) → left c → IsImageOf file_pages batches c
-  pub commits_stand : commits (history_of batches) ≡ count
-  pub rows_stand : rows_of_log (history_of batches) ≡ rows
+  pub commits_stand : commit_count (acts_of_batches batches) ≡ count
+  pub rows_stand : rows_of_log (acts_of_batches batches) ≡ rows
   pub nothing_behind : core.active ≡ false → tail ≡ []
   pub at_history : IsAtHistory file_pages count rows core under inserts (whole_history batches tail)
 

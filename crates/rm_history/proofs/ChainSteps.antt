@@ -8,7 +8,7 @@ use Rattle.rm_history.specs.Acts.{Change, Undo, Finish, History, changes, undoes
 use Rattle.rm_history.specs.Contents.{slot_at, page_of}
 use Rattle.rm_history.specs.Pending.{older, pending_of, rows_of_log}
 use Rattle.rm_history.specs.Rules.{MayChange, MayUndo, MayEnd, IsInOrder}
-use Rattle.rm_history.specs.Meaning.{IsChanged}
+use Rattle.rm_history.specs.Laws.{IsChanged}
 use Rattle.rm_history.proofs.PendingSteps.{cases_rid, pending-change, pending-change_other, pending-undo, pending-undo_other, pending-commit, pending-commit_other, pending-end_other, if_equal, slot_at-put, slot_at-put_other}
 use Rattle.rm_history.proofs.PendingLaws.{changed_none, pending_is_of_one}
 use Rattle.rm_history.proofs.LeadsBack.{LeadsBack, same_way, unchanged_row, unchanged_leads, cases_changed, applied_leads, applied_free}

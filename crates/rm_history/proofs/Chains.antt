@@ -5,7 +5,7 @@ use Rattle.rm_history.specs.Acts.{Change, History, changes, undoes, enters, comm
 use Rattle.rm_history.specs.Contents.{slot_at, page_of}
 use Rattle.rm_history.specs.Pending.{pending_of, rows_of_log, IsFinished}
 use Rattle.rm_history.specs.Rules.{IsInOrder}
-use Rattle.rm_history.specs.Meaning.{IsChanged}
+use Rattle.rm_history.specs.Laws.{IsChanged}
 use Rattle.rm_history.proofs.PendingLaws.{AreOf, pending_are_of, changed_has_change, changed_unfinished, changed_inside}
 use Rattle.rm_history.proofs.LeadsBack.{LeadsBack}
 use Rattle.rm_history.proofs.ChainSteps.{held_in, LeadsFrom, AllLead, alone_there, all_lead-change, all_lead-undo, all_lead-commit, all_lead-end}

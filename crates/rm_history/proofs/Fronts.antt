@@ -1,6 +1,6 @@
 -- What stands before the newest records of a history.
 use Rattle.std.proofs.Common.{[], ◌∷◌}
-use Rattle.rm_history.specs.Meaning.{EmptyIsLegal, FrontsAreInOrder, LegalFronts, LegalIsInOrder}
+use Rattle.rm_history.specs.Laws.{EmptyIsLegal, FrontsAreInOrder, LegalFronts, LegalIsInOrder}
 
 -- what stands before the newest records is in order
 pub fronts_are_in_order : FrontsAreInOrder

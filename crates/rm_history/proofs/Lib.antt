@@ -1,7 +1,7 @@
-pub mod Onto
+pub mod Behind
+pub mod Told
 pub mod Settled
 pub mod Readings
-pub mod Undo
 pub mod Damages
 pub mod Fronts
 pub mod PendingSteps

@@ -5,7 +5,7 @@ use Rattle.rm_history.specs.Acts.{Act, Change, Undo, Finish, History, changes, u
 use Rattle.rm_history.specs.Pending.{older, pending_of, IsFinished}
 use Rattle.rm_history.specs.Rules.{MayUndo, IsInOrder}
 use Rattle.rm_history.specs.Literal.{is_undone, net_among}
-use Rattle.rm_history.specs.Meaning.{NetIsPending}
+use Rattle.rm_history.specs.Laws.{NetIsPending}
 use Rattle.rm_history.proofs.NetLists.{HasLogged, net_kept, net_undone, net_foreign, net_agree, net-reverse}
 use Rattle.rm_history.proofs.ChangeLsns.{logged_below, logged_once, undone_is_logged, not_undone_yet}
 

@@ -7,7 +7,7 @@ use Rattle.rm_history.specs.Acts.{Change, History, changes, undoes, enters, comm
 use Rattle.rm_history.specs.Contents.{page_of}
 use Rattle.rm_history.specs.Pending.{older, last_of, pending_of, IsFinished, HasChange}
 use Rattle.rm_history.specs.Rules.{MayChange, IsInOrder}
-use Rattle.rm_history.specs.Meaning.{AreChained, IsChanged, PendingIsChained, PendingIsOfOne}
+use Rattle.rm_history.specs.Laws.{AreChained, IsChanged, PendingIsChained, PendingIsOfOne}
 use Rattle.rm_history.proofs.PendingSteps.{if_equal, pending-change_other, pending-undo_other, length-put, inside-put}
 
 -- ---- changes among others

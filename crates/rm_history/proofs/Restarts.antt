@@ -9,7 +9,7 @@ use Rattle.rm_history.specs.Pending.{pending_of, without_newest, all_pending, ro
 use Rattle.rm_history.specs.Needs.{on_page}
 use Rattle.rm_history.specs.Rules.{IsLegal}
 use Rattle.rm_history.specs.Undoing.{category_after, entry_for, undo_for, Settles, Undone, AllUndone, AllEnded, losers_of}
-use Rattle.rm_history.specs.Meaning.{IsUndone, RestartsAreLegal, RestartsAreThere}
+use Rattle.rm_history.specs.Laws.{IsUndone, RestartsAreLegal, RestartsAreThere}
 use Rattle.rm_history.proofs.Fronts.{legal_is_in_order}
 use Rattle.rm_history.proofs.PendingLaws.{changed_none, changed_has_change}
 use Rattle.rm_history.proofs.Chains.{last_is_changed, last_is_unfinished}

@@ -5,7 +5,7 @@ use Rattle.rm_history.specs.Pending.{pending_of, rows_of_log, IsFinished, HasRec
 use Rattle.rm_history.specs.Needs.{on_page, need_for, need_of, Fits}
 use Rattle.rm_history.specs.Rules.{MayEnd, EntriesFollow, IsLegal}
 use Rattle.rm_history.specs.Undoing.{AllUndone, Ended}
-use Rattle.rm_history.specs.Meaning.{RollbacksAreLegal}
+use Rattle.rm_history.specs.Laws.{RollbacksAreLegal}
 use Rattle.rm_history.proofs.Fronts.{legal_is_in_order}
 use Rattle.rm_history.proofs.ChainSteps.{pending-ended}
 use Rattle.rm_history.proofs.NeedSums.{sum_below-same}

@@ -8,7 +8,7 @@ use Rattle.rm_history.specs.Pending.{pending_of, rows_of_log, IsFinished}
 use Rattle.rm_history.specs.Needs.{on_page, need_of, sum_below, Fits}
 use Rattle.rm_history.specs.Rules.{MayUndo, IsPendingOn, EntriesFollow, Follows, IsInOrder, IsLegal}
 use Rattle.rm_history.specs.Undoing.{category_after, entry_for, undo_for, Settles, Undone}
-use Rattle.rm_history.specs.Meaning.{IsUndone, NoUndoLacksRoom}
+use Rattle.rm_history.specs.Laws.{IsUndone, NoUndoLacksRoom}
 use Rattle.rm_history.proofs.NeedSums.{room_kept, used-inside, on_page-here, on_page-elsewhere, pending_of-undo, need_of-undo, need_of-undo_elsewhere, need_of-undo_other}
 use Rattle.rm_history.proofs.Fronts.{legal_is_in_order}
 use Rattle.rm_history.proofs.PendingSteps.{pending-undo_other}

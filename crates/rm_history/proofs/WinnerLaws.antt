@@ -7,7 +7,7 @@ use Rattle.rm_history.specs.Acts.{Act, Change, Finish, History, changes, undoes,
 use Rattle.rm_history.specs.Pending.{with_slot, pending_of, applied, rows_of_log, IsFinished}
 use Rattle.rm_history.specs.Rules.{MayCome, IsInOrder}
 use Rattle.rm_history.specs.Literal.{net_among, net, winners, made, won, rows_of_acts}
-use Rattle.rm_history.specs.Meaning.{RowsAreOfWinners}
+use Rattle.rm_history.specs.Laws.{RowsAreOfWinners}
 use Rattle.rm_history.proofs.NetLists.{reverse-cons, net-reverse}
 use Rattle.rm_history.proofs.NetLaws.{IsForeign, net_stays, pending_is_net}
 

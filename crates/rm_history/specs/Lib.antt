@@ -1,7 +1,4 @@
 pub mod Logs
-pub mod Histories
-pub mod Legal
-pub mod Laws
 pub mod Acts
 pub mod Contents
 pub mod Pending
@@ -9,6 +6,6 @@ pub mod Needs
 pub mod Rules
 pub mod Undoing
 pub mod Literal
-pub mod Meaning
+pub mod Laws
 pub mod Batched
 pub mod Room

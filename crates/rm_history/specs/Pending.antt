@@ -1,10 +1,10 @@
 -- What of a history may still be undone, and the rows that are committed.
-use Rattle.std.specs.Prelude.{◌≡◌, ℕ, ◌==◌, if◌then◌else◌, List, [], ◌∷◌, Option, Some, None, ◌⊎◌}
+use Rattle.std.specs.Prelude.{◌≡◌, ℕ, ◌+◌, ◌==◌, if◌then◌else◌, List, [], ◌∷◌, max, None, ◌⊎◌}
 use Rattle.rm_types.specs.declared.numbers.Rid.{Rid}
 use Rattle.rm_types.specs.declared.slots.Slot.{Slot}
 use Rattle.rm_model.specs.Pages.{row_of}
 use Rattle.rm_model.specs.Object.{Rows, is_same_place}
-use Rattle.rm_history.specs.Acts.{Act, Change, History, changes, undoes, enters, commits, ends, lists}
+use Rattle.rm_history.specs.Acts.{Change, History, changes, undoes, enters, commits, ends, lists}
 
 -- all but the newest
 abbrev pub older : List Change → List Change
@@ -93,3 +93,33 @@ rows_of_log (enters e ∷ before) = rows_of_log before
 rows_of_log (commits f ∷ before) = applied (rows_of_log before) (pending_of before f.txn)
 rows_of_log (ends f ∷ before) = rows_of_log before
 rows_of_log (lists l ∷ before) = rows_of_log before
+
+-- the greatest id of a transaction that has a record, 0 for none
+abbrev pub greatest_txn : History → ℕ
+greatest_txn [] = 0
+greatest_txn (changes c ∷ before) = max c.txn (greatest_txn before)
+greatest_txn (undoes u ∷ before) = max u.txn (greatest_txn before)
+greatest_txn (enters e ∷ before) = max e.txn (greatest_txn before)
+greatest_txn (commits f ∷ before) = max f.txn (greatest_txn before)
+greatest_txn (ends f ∷ before) = max f.txn (greatest_txn before)
+greatest_txn (lists l ∷ before) = greatest_txn before
+
+-- how many commits there are
+abbrev pub commit_count : History → ℕ
+commit_count [] = 0
+commit_count (changes c ∷ before) = commit_count before
+commit_count (undoes u ∷ before) = commit_count before
+commit_count (enters e ∷ before) = commit_count before
+commit_count (commits f ∷ before) = commit_count before + 1
+commit_count (ends f ∷ before) = commit_count before
+commit_count (lists l ∷ before) = commit_count before
+
+-- how many records are of the kinds that restart repeats: changes, undoes, enters
+abbrev pub repeat_count : History → ℕ
+repeat_count [] = 0
+repeat_count (changes c ∷ before) = repeat_count before + 1
+repeat_count (undoes u ∷ before) = repeat_count before + 1
+repeat_count (enters e ∷ before) = repeat_count before + 1
+repeat_count (commits f ∷ before) = repeat_count before
+repeat_count (ends f ∷ before) = repeat_count before
+repeat_count (lists l ∷ before) = repeat_count before

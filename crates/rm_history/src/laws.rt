@@ -1,6 +1,16 @@
 //! What holds of all histories: functions without code, whose contracts are laws.
 
-ghost use Rattle.rm_history.specs.Meaning.{NeedsGoOn, SettledWhenNothingIsPending, EmptyIsLegal, FrontsAreInOrder, LegalFronts, LegalIsInOrder, PendingIsChained, PendingIsOfOne, PagesHoldWhatIsPending, PagesHoldWhatIsCommitted, NoUndoLacksRoom, RollbacksAreLegal, RestartsAreLegal, RestartsAreThere, UndoBytesGoDown, NetIsPending, RowsAreOfWinners, NeedIsTheMost};
+ghost use Rattle.rm_history.specs.Laws.{LogsAreOne, ActsTellRecords, NeedsGoOn, SettledWhenNothingIsPending, EmptyIsLegal, FrontsAreInOrder, LegalFronts, LegalIsInOrder, PendingIsChained, PendingIsOfOne, PagesHoldWhatIsPending, PagesHoldWhatIsCommitted, NoUndoLacksRoom, RollbacksAreLegal, RestartsAreLegal, RestartsAreThere, UndoBytesGoDown, NetIsPending, RowsAreOfWinners, NeedIsTheMost};
+
+/// An area has one log.
+pub fn an_area_has_one_log()
+    ensures { LogsAreOne }
+{}
+
+/// What a record does, with its LSN, tells the record: a history of acts has all that its records have.
+pub fn an_act_tells_its_record()
+    ensures { ActsTellRecords }
+{}
 
 /// What stands before the newest records of a history in order is in order.
 pub fn a_front_of_a_history_in_order_is_in_order()

@@ -2,3 +2,5 @@ pub mod Pages
 pub mod Misfits
 pub mod Openings
 pub mod Soundness
+pub mod PlainLaws
+pub mod PlainUndo

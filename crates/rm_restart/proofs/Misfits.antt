@@ -1,52 +1,119 @@
 -- How the replay of a record goes on to that of all records.
-use Rattle.std.proofs.Common.{◌≡◌, ℕ, ◌+◌, ◌<◌, ◌≤◌, List, [], ◌∷◌, ◌++◌, length, get_or, take, drop, reverse, sym, ap, ◌∙◌, arith, append_assoc, suc}
-use Rattle.std.proofs.lemmas.List.{reverse-append, length-reverse, length-take}
-use Rattle.std.proofs.Math.Seq.{split_at}
+use Rattle.std.proofs.Common.{◌≡◌, inl, inr, ℕ, ◌+◌, ◌<◌, ◌≤◌, List, [], ◌∷◌, ◌++◌, length, get_or, take, drop, Result, Ok, Err, IfErr, refl, sym, ap, subst, ◌∙◌, arith, suc}
+use Rattle.std.proofs.lemmas.Bool.{cases_lt, eq-eqb}
+use Rattle.std.proofs.lemmas.List.{append_assoc, length-take}
+use Rattle.std.proofs.Math.Seq.{split_at, take-suc}
+use Rattle.rm_types.specs.declared.numbers.Lsn.{Lsn}
+use Rattle.rm_types.specs.declared.numbers.Rid.{Rid}
+use Rattle.rm_types.specs.declared.numbers.TxnId.{TxnId}
+use Rattle.rm_types.specs.declared.slots.Slot.{Slot}
+use Rattle.rm_types.specs.declared.slots.Slot.TheVariants.{Row}
+use Rattle.rm_types.specs.declared.slots.TheConstants.{CAPACITY}
+use Rattle.rm_model.specs.Pages.{used, set_slot}
+use Rattle.rm_model.specs.Session.{page_at}
 use Rattle.rm_record.specs.declared.records.LogRecord.{LogRecord}
 use Rattle.rm_record.specs.declared.records.LogRecord.TheVariants.{Insert}
 use Rattle.rm_record.specs.declared.records.Logged.{Logged}
-use Rattle.rm_history.specs.Histories.{History, inserts, inserts_after}
-use Rattle.rm_history.specs.Legal.{AreBelow}
+use Rattle.rm_history.specs.Acts.{History, changes, undoes, enters, commits, ends, lists, act_at, act_of, acts_onto, acts_of}
+use Rattle.rm_history.specs.Contents.{page_of}
+use Rattle.rm_history.specs.Pending.{repeat_count}
+use Rattle.rm_history.specs.Batched.{AreBelow}
+use Rattle.rm_history.proofs.Behind.{acts_onto-append, acts_of-snoc, lsn_of-act_at}
 use Rattle.rm_restart.specs.declared.replay.ReplayRefused.{ReplayRefused}
 use Rattle.rm_restart.specs.declared.replay.ReplayRefused.TheVariants.{Misfit, NoMemory}
+use Rattle.rm_restart.specs.Plain.{ArePlain}
+use Rattle.rm_restart.specs.declared.replay.Replay.{Replay}
 use Rattle.rm_restart.specs.Opening.{IsMisfit, IsMisfitAt}
+use Rattle.rm_restart.specs.Replaying.{slots_of, Replays, LacksPlace}
 use Rattle.rm_restart.specs.Refusals.{IfMisfit}
 
-inserts_after_few : (what : LogRecord) (count bound : ℕ) → count ≤ bound → inserts_after what count ≤ bound + 1
-inserts_after_few (Insert txn under rid need row) count bound le = omega arith
-inserts_after_few other count bound le = omega arith
+-- a history has no more records that restart repeats than records
+repeats_few : (history : History) → repeat_count history ≤ length history
+repeats_few [] = omega arith
+repeats_few (changes c ∷ before) = omega (arith, repeats_few before)
+repeats_few (undoes u ∷ before) = omega (arith, repeats_few before)
+repeats_few (enters e ∷ before) = omega (arith, repeats_few before)
+repeats_few (commits f ∷ before) = omega (arith, repeats_few before)
+repeats_few (ends f ∷ before) = omega (arith, repeats_few before)
+repeats_few (lists l ∷ before) = omega (arith, repeats_few before)
 
--- a history has no more inserts than records
-pub inserts_few : (history : History) → inserts history ≤ length history
-inserts_few [] = omega arith
-inserts_few (newest ∷ before) = omega (arith, inserts_after_few newest.what (inserts before) (length before) (inserts_few before))
+length-acts_onto : (history : History) (log : List Logged) → length (acts_onto history log) ≡ length history + length log
+length-acts_onto history [] = omega arith
+length-acts_onto history (oldest ∷ log) = omega (arith, length-acts_onto (act_of oldest ∷ history) log)
 
-pub inserts_so_far : (records : List Logged) (i : ℕ) → inserts (reverse (take i records)) ≤ length records
-inserts_so_far records i =
-    omega (arith, inserts_few (reverse (take i records)), length-reverse (take i records), length-take i records)
+pub repeats_so_far : (records : List Logged) (i : ℕ) → repeat_count (acts_of (take i records)) ≤ length records
+repeats_so_far records i =
+    omega (arith, repeats_few (acts_of (take i records)), length-acts_onto [] (take i records), length-take i records)
 
--- the records from the newest on, around one of them
-pub reverse_split : (records : List Logged) (i : ℕ) (logged : Logged) → i < length records → logged ≡ get_or records i logged
-    → reverse records ≡ reverse (drop (suc i) records) ++ logged ∷ reverse (take i records)
-reverse_split records i logged inside is =
+-- one record more
+pub acts_of-next : (records : List Logged) (i : ℕ) (logged : Logged) → i < length records → logged ≡ get_or records i logged
+    → acts_of (take (i + 1) records) ≡ act_of logged ∷ acts_of (take i records)
+acts_of-next records i logged inside is =
+    let one : i + 1 ≡ suc i = omega arith in
+    ap (λ (n : ℕ). acts_of (take n records)) one
+    ∙ ap acts_of (take-suc records i logged inside) ∙ acts_of-snoc (take i records) (get_or records i logged) ∙ ap (λ (l : Logged). act_of l ∷ acts_of (take i records)) (sym is)
+
+-- what is behind a history
+acts_onto-behind : (history : History) (log : List Logged) → (more : History) × (acts_onto history log ≡ more ++ history)
+acts_onto-behind history [] = ([], refl)
+acts_onto-behind history (oldest ∷ log) =
+    let rest = acts_onto-behind (act_of oldest ∷ history) log in
+    (rest.0 ++ act_of oldest ∷ [], rest.1 ∙ sym (append_assoc rest.0 (act_of oldest ∷ []) history))
+
+-- the history of all records, around one of them
+acts_of-around : (records : List Logged) (i : ℕ) (logged : Logged) → i < length records → logged ≡ get_or records i logged
+    → (more : History) × (acts_of records ≡ more ++ act_of logged ∷ acts_of (take i records))
+acts_of-around records i logged inside is =
     let front = take i records in
     let back = drop (suc i) records in
     let split : records ≡ front ++ logged ∷ back = split_at records i logged inside ∙ ap (λ (l : Logged). front ++ l ∷ back) (sym is) in
-    let turned : reverse records ≡ (reverse back ++ logged ∷ []) ++ reverse front =
-    ap reverse split ∙ reverse-append front (logged ∷ back) ∙ ap (λ (l : List Logged). l ++ reverse front) (reverse-append (logged ∷ []) back) in
-    turned ∙ append_assoc (reverse back) (logged ∷ []) (reverse front)
+    let rest = acts_onto-behind (act_of logged ∷ acts_of front) back in
+    (rest.0, ap acts_of split ∙ acts_onto-append [] front (logged ∷ back) ∙ rest.1)
 
 -- a misfit so far is the first of all records
 pub misfit_of_all : (pages : ℕ) (records : List Logged) (i : ℕ) (logged : Logged) (refused : ReplayRefused) → i < length records → logged ≡ get_or records i logged
-    → AreBelow pages (reverse (take i records)) → IfMisfit refused (λ at. (at ≡ logged.lsn) × IsMisfit pages (reverse (take i records)) logged)
-    → IfMisfit refused (λ at. IsMisfitAt pages (reverse records) at.0)
-misfit_of_all pages records i logged (Misfit at) inside is below misfit = record {
-  more = reverse (drop (suc i) records);
-  logged = logged;
-  before = reverse (take i records);
-  split = reverse_split records i logged inside is;
-  place = λ j. (misfit.0 j).0;
-  fits = below;
-  misfit = misfit.1;
-}
-misfit_of_all pages records i logged NoMemory inside is below misfit = tt
+    → AreBelow pages (acts_of (take i records)) → ArePlain (acts_of (take i records))
+    → IfMisfit refused (λ at. (at ≡ logged.lsn) × IsMisfit pages (acts_of (take i records)) (act_of logged))
+    → IfMisfit refused (λ at. IsMisfitAt pages (acts_of records) at.0)
+misfit_of_all pages records i logged (Misfit at) inside is below plain misfit =
+    let around = acts_of-around records i logged inside is in
+    record {
+      more = around.0;
+      act = act_of logged;
+      before = acts_of (take i records);
+      split = around.1;
+      place = (λ j. (misfit.0 j).0) ∙ sym (lsn_of-act_at logged.lsn.0 logged.what);
+      below = below;
+      plain = plain;
+      misfit = misfit.1;
+    }
+misfit_of_all pages records i logged NoMemory inside is below plain misfit = tt
+
+-- a row that has no place there makes its insert a misfit
+lacks_place : (pages : ℕ) (history : History) (replay : Replay) (lsn : ℕ) (txn : TxnId) (under : Lsn) (rid : Rid) (need : ℕ) (row : List ℕ) → Replays pages history replay
+    → LacksPlace (slots_of replay.pages.items) rid row → IsMisfit pages history (act_at lsn (Insert txn under rid need row))
+lacks_place pages history replay lsn txn under rid need row replays (inl outside) = inl (λ below. omega (arith, below, outside, replays.count))
+lacks_place pages history replay lsn txn under rid need row replays (inr over) = elim (cases_lt rid.page pages) [
+  | inl inside ↦
+      let there : page_of (act_at lsn (Insert txn under rid need row) ∷ history) rid.page ≡ set_slot (page_at (slots_of replay.pages.items) rid.page) rid.slot (Row row) =
+      rw (eq-eqb rid.page rid.page refl) (ap (λ (slots : List Slot). set_slot slots rid.slot (Row row)) (sym (replays.pages_are rid.page inside))) in
+      inr (inr (rid.page, subst (λ (slots : List Slot). CAPACITY < used slots) (sym there) over))
+  | inr past ↦ inl (λ below. omega (arith, below, past))
+]
+
+insert_misfit : (pages : ℕ) (history : History) (replay : Replay) (refused : ReplayRefused) (lsn : Lsn) (txn : TxnId) (under : Lsn) (rid : Rid) (need : ℕ) (row : List ℕ) → Replays pages history replay
+    → IfMisfit refused (λ at. (at ≡ lsn) × LacksPlace (slots_of replay.pages.items) rid row)
+    → IfMisfit refused (λ at. (at ≡ lsn) × IsMisfit pages history (act_at lsn.0 (Insert txn under rid need row)))
+insert_misfit pages history replay (Misfit at) lsn txn under rid need row replays found =
+    (found.0, lacks_place pages history replay lsn.0 txn under rid need row replays found.1)
+insert_misfit pages history replay NoMemory lsn txn under rid need row replays found = tt
+
+pub insert_misfits : {T : Type 0} (pages : ℕ) (history : History) (replay : Replay) (result : Result T ReplayRefused) (logged : Logged) (txn : TxnId) (under : Lsn) (rid : Rid) (need : ℕ) (row given : List ℕ)
+    → Replays pages history replay → logged.what ≡ Insert txn under rid need row → given ≡ row
+    → IfErr result (λ refused. IfMisfit refused (λ at. (at ≡ logged.lsn) × LacksPlace (slots_of replay.pages.items) rid given))
+    → IfErr result (λ refused. IfMisfit refused (λ at. (at ≡ logged.lsn) × IsMisfit pages history (act_of logged)))
+insert_misfits pages history replay (Ok done) logged txn under rid need row given replays is same found = tt
+insert_misfits pages history replay (Err refused) logged txn under rid need row given replays is same found =
+    subst (λ (what : LogRecord). IfMisfit refused (λ at. (at ≡ logged.lsn) × IsMisfit pages history (act_at logged.lsn.0 what))) (sym is)
+    (insert_misfit pages history replay refused logged.lsn txn under rid need row replays
+    (subst (λ (r : List ℕ). IfMisfit refused (λ at. (at ≡ logged.lsn) × LacksPlace (slots_of replay.pages.items) rid r)) same found))

@@ -1,5 +1,5 @@
 -- What is opened, and why not, by what the log and the master said.
-use Rattle.std.proofs.Common.{◌≡◌, inl, ℕ, ◌+◌, List, [], ◌∷◌, length, Result, Ok, Err, IfOk, OnOk, false, reverse, refl, sym, ap, subst, ◌∙◌}
+use Rattle.std.proofs.Common.{◌≡◌, inl, ℕ, ◌+◌, List, [], ◌∷◌, length, Result, Ok, Err, IfOk, OnOk, false, refl, sym, ap, subst, ◌∙◌}
 use Rattle.std.proofs.lemmas.Bool.{true≢false}
 use Rattle.rm_types.specs.declared.areas.Area.{Area}
 use Rattle.rm_types.specs.declared.areas.Area.TheVariants.{Master, Log}
@@ -17,7 +17,9 @@ use Rattle.rm_model.specs.Session.{page_at}
 use Rattle.rm_wal.specs.Tails.{LogValue}
 use Rattle.rm_wal.specs.Attaching.{Attaches}
 use Rattle.rm_history.specs.Logs.{IsDamagedAt as IsLogDamagedAt}
-use Rattle.rm_history.specs.Histories.{History, Change, pending, history_of}
+use Rattle.rm_history.specs.Acts.{Change, History, acts_of}
+use Rattle.rm_history.specs.Pending.{pending_of}
+use Rattle.rm_history.specs.Batched.{acts_of_batches}
 use Rattle.rm_restart.specs.declared.opening.Opened.{Opened}
 use Rattle.rm_restart.specs.declared.opening.Report.{Report}
 use Rattle.rm_restart.specs.declared.faults.RestartFault.{RestartFault}
@@ -49,19 +51,20 @@ none_pending (newest ∷ before) none = absurd (true≢false none)
 
 -- the log's replay left nothing pending
 pub opens : (told : Type 0) (content : Image) (limit : ℕ) (fields : Fields) (log : LogValue) (records : List Logged) (replay : Replay) (result : Result Opened RestartFault)
-    → IsFields fields → fields.checkpoint ≡ 0 → (told → HasFields (content Master) fields) → Attaches told (content Log) limit log records → Replays fields.pages (reverse records) replay
+    → IsFields fields → fields.checkpoint ≡ 0 → (told → HasFields (content Master) fields) → Attaches told (content Log) limit log records → Replays fields.pages (acts_of records) replay
     → OnOk result (IsNone replay.pending) → IfOk result (λ opened. opened.pages.items ≡ replay.pages.items) → IfOk result (λ opened. opened.next ≡ replay.greatest + 1)
     → IfOk result (λ opened. opened.log ≡ log) → IfOk result (λ opened. opened.report ≡ record { redo = 0; records = replay.inserts; applied = replay.inserts; undone = 0 })
     → IfOk result (λ opened. Opens told content limit (slots_of opened.pages.items) opened.next opened.log opened.report.records)
 opens told content limit fields log records replay (Ok opened) rules no_checkpoint has attached replayed none pages next logged report =
-    let history : History = history_of attached.batches in
+    let history : History = acts_of_batches attached.batches in
     let all : Replays fields.pages history replay = subst (λ (h : History). Replays fields.pages h replay) (sym attached.history_is) replayed in
     record {
       fields = fields;
       batches = attached.batches;
       read = record { is_fields = rules; has_fields = has; checkpoint = no_checkpoint; are_batches = attached.are_batches; has_log = attached.has_log };
       below = all.below;
-      settled = λ id. none_pending (pending history id) (sym (all.pending_are id) ∙ none.each id);
+      plain = all.plain;
+      settled = λ id. none_pending (pending_of history id) (sym (all.pending_are id) ∙ none.each id);
       count = ap (λ (items : List PageValue). length (slots_of items)) pages ∙ all.count;
       pages_are = λ page inside. ap (λ (items : List PageValue). page_at (slots_of items) page) pages ∙ all.pages_are page inside;
       next_is = next ∙ ap (λ (n : ℕ). n + 1) all.greatest_is;

@@ -1,4 +1,5 @@
 -- What is sound is not damaged, and what an opening reads of it.
+use Rattle.std.specs.List.{AllByRecursion}
 use Rattle.std.proofs.Common.{◌≡◌, inl, inr, ℕ, List, [], ◌∷◌, ◌++◌, None, refl, sym, ap, subst, ◌∙◌, arith}
 use Rattle.rm_types.specs.declared.slots.Slot.{Slot}
 use Rattle.rm_types.specs.declared.areas.Area.{Area}
@@ -9,14 +10,17 @@ use Rattle.rm_master.specs.Fields.{fresh_fields, slot_bytes}
 use Rattle.rm_master.specs.Slots.{HasFields, IsUnmade, IsDamagedAt as IsMasterDamagedAt, current, slot_at}
 use Rattle.rm_master.specs.Fresh.{IsFresh}
 use Rattle.rm_master.proofs.SlotLemmas.{one_shown}
-use Rattle.rm_record.specs.declared.records.Logged.{Logged}
 use Rattle.rm_wal.specs.Tails.{LogValue}
 use Rattle.rm_history.specs.Logs.{Batch}
-use Rattle.rm_history.specs.Histories.{History, history_of, pending}
-use Rattle.rm_history.specs.Legal.{IsLegal, IsBelow, AreBelow, Fits}
+use Rattle.rm_history.specs.Acts.{Act, History}
+use Rattle.rm_history.specs.Pending.{pending_of}
+use Rattle.rm_history.specs.Needs.{Fits}
+use Rattle.rm_history.specs.Rules.{IsInOrder}
+use Rattle.rm_history.specs.Batched.{acts_of_batches, IsBelow, AreBelow}
 use Rattle.rm_history.proofs.Readings.{log_once}
 use Rattle.rm_history.proofs.Damages.{damaged_has_no_log}
-use Rattle.rm_history.proofs.Undo.{undo_bytes-none}
+use Rattle.rm_history.proofs.Fronts.{fronts_are_in_order}
+use Rattle.rm_restart.specs.Plain.{IsPlain, ArePlain}
 use Rattle.rm_restart.specs.Sound.{IsImageOf, IsSoundLog, IsSound, Holds}
 use Rattle.rm_restart.specs.Opening.{Opens, NeedsUndoOf, IsDamage, IsMisfit, IsMisfitAt, IsMisfitOf, NamesCheckpoint}
 use Rattle.rm_restart.specs.Laws.{IsReadFrom}
@@ -41,33 +45,31 @@ no_checkpoint content at names sound =
 
 -- the log
 
-legal_behind : (more before : History) → IsLegal (more ++ before) → IsLegal before
-legal_behind [] before legal = legal
-legal_behind (newest ∷ more) before legal = legal_behind more before legal.0
+behind : (P : Act → Type 0) (more before : History) → AllByRecursion P (more ++ before) → AllByRecursion P before
+behind P [] before all = all
+behind P (newest ∷ more) before all = behind P more before all.1
 
-below_behind : (pages : ℕ) (more before : History) → AreBelow pages (more ++ before) → AreBelow pages before
-below_behind pages [] before below = below
-below_behind pages (newest ∷ more) before below = below_behind pages more before below.1
+not_misfit : (pages : ℕ) (before : History) (act : Act) → IsBelow pages act → IsPlain act → Fits (act ∷ before) → IsMisfit pages before act → ⊥
+not_misfit pages before act below plain fits (inl outside) = outside below
+not_misfit pages before act below plain fits (inr (inl other)) = other plain
+not_misfit pages before act below plain fits (inr (inr over)) = omega (arith, fits over.0 0, over.1)
 
-not_misfit : (pages : ℕ) (before : History) (logged : Logged) → IsBelow pages logged.what → Fits (logged ∷ before) → IsMisfit pages before logged → ⊥
-not_misfit pages before logged below fits (inl outside) = outside below
-not_misfit pages before logged below fits (inr over) = omega (arith, fits over.0, over.1)
-
-legal_fits : (pages : ℕ) (history : History) (at : ℕ) → IsLegal history → AreBelow pages history → IsMisfitAt pages history at → ⊥
-legal_fits pages history at legal below misfit =
-    let here : History = misfit.logged ∷ misfit.before in
-    let legal_here : IsLegal here = legal_behind misfit.more here (subst IsLegal misfit.split legal) in
-    let below_here : AreBelow pages here = below_behind pages misfit.more here (subst (AreBelow pages) misfit.split below) in
-    not_misfit pages misfit.before misfit.logged below_here.0 legal_here.2 misfit.misfit
+none_misfits : (pages : ℕ) (history : History) (at : ℕ) → IsInOrder history → ArePlain history → AreBelow pages history → IsMisfitAt pages history at → ⊥
+none_misfits pages history at ordered plain below misfit =
+    let here : History = misfit.act ∷ misfit.before in
+    let ordered_here : IsInOrder here = fronts_are_in_order misfit.more here (subst IsInOrder misfit.split ordered) in
+    let plain_here : ArePlain here = behind IsPlain misfit.more here (subst ArePlain misfit.split plain) in
+    let below_here : AreBelow pages here = behind (IsBelow pages) misfit.more here (subst (AreBelow pages) misfit.split below) in
+    not_misfit pages misfit.before misfit.act below_here.0 plain_here.0 ordered_here.1.fits misfit.misfit
 
 no_misfit : (content : Image) (at : ℕ) → IsMisfitOf content at → IsSound content → ⊥
 no_misfit content at misfit sound =
     let fields = fields_once (content Master) misfit.fields sound.image.fields misfit.read sound.image.master in
     let batches : misfit.batches ≡ sound.batches = log_once (content Log) misfit.batches sound.batches misfit.has_log sound.image.log in
     let pages : misfit.fields.pages ≡ sound.pages = ap (λ (f : Fields). f.pages) fields ∙ sound.image.size in
-    let moved : IsMisfitAt sound.pages (history_of misfit.batches) at = subst (λ (n : ℕ). IsMisfitAt n (history_of misfit.batches) at) pages misfit.misfit in
-    legal_fits sound.pages (history_of sound.batches) at sound.sound_log.legal sound.sound_log.below
-    (subst (λ (b : List Batch). IsMisfitAt sound.pages (history_of b) at) batches moved)
+    let moved : IsMisfitAt sound.pages (acts_of_batches misfit.batches) at = subst (λ (n : ℕ). IsMisfitAt n (acts_of_batches misfit.batches) at) pages misfit.misfit in
+    none_misfits sound.pages (acts_of_batches sound.batches) at sound.sound_log.in_order sound.sound_log.plain sound.sound_log.below
+    (subst (λ (b : List Batch). IsMisfitAt sound.pages (acts_of_batches b) at) batches moved)
 
 pub sound_is_not_damaged : (content : Image) (area : Area) (at : ℕ) → IsDamage content area at → IsSound content → ⊥
 sound_is_not_damaged content Master at damaged sound = master_not_damaged (content Master) at sound.image.fields damaged sound.image.master
@@ -80,7 +82,7 @@ sound_is_not_damaged content Copy at damaged sound = damaged
 
 -- an empty log
 empty_is_sound : (pages : ℕ) → IsSoundLog pages []
-empty_is_sound pages = record { legal = tt; below = tt; room = omega (arith, undo_bytes-none [] (λ id. refl)) }
+empty_is_sound pages = record { in_order = tt; plain = tt; below = tt; room = omega arith }
 
 pub fresh_is_sound : (pages : ℕ) (content : Image) → IsFresh pages content → (held : Holds 0 (λ rid. None) content) × (held.sound.pages ≡ pages)
 fresh_is_sound pages content fresh =
@@ -123,4 +125,4 @@ pub opened_needs_no_undo : (told : Type 0) (content : Image) (limit : ℕ) (page
     → Opens told content limit pages next log inserted → NeedsUndoOf told content id → told → ⊥
 opened_needs_no_undo told content limit pages next log inserted id opens needs tells =
     let batches : needs.batches ≡ opens.batches = log_once (content Log) needs.batches opens.batches (needs.read.has_log tells) (opens.read.has_log tells) in
-    needs.pends (ap (λ (b : List Batch). pending (history_of b) id) batches ∙ opens.settled id)
+    needs.pends (ap (λ (b : List Batch). pending_of (acts_of_batches b) id) batches ∙ opens.settled id)

@@ -1,3 +1,4 @@
+pub mod Plain
 pub mod Sound
 pub mod Opening
 pub mod Outcomes

@@ -7,14 +7,16 @@ use Rattle.rm_types.specs.declared.slots.TheConstants.{CAPACITY}
 use Rattle.rm_outside.specs.Images.{Image}
 use Rattle.rm_model.specs.Pages.{used}
 use Rattle.rm_model.specs.Session.{page_at}
-use Rattle.rm_record.specs.declared.records.Logged.{Logged}
 use Rattle.rm_master.specs.declared.fields.Fields.{Fields}
 use Rattle.rm_master.specs.Fields.{IsFields}
 use Rattle.rm_master.specs.Slots.{HasFields, IsDamagedAt as IsMasterDamagedAt}
 use Rattle.rm_wal.specs.Tails.{LogValue}
 use Rattle.rm_history.specs.Logs.{Batch, gate_of, AreBatches, HasLog, IsDamagedAt as IsLogDamagedAt}
-use Rattle.rm_history.specs.Histories.{History, history_of, page_of, pending, greatest_id, inserts}
-use Rattle.rm_history.specs.Legal.{IsBelow, AreBelow}
+use Rattle.rm_history.specs.Acts.{Act, History, lsn_of}
+use Rattle.rm_history.specs.Contents.{page_of}
+use Rattle.rm_history.specs.Pending.{pending_of, greatest_txn, repeat_count}
+use Rattle.rm_history.specs.Batched.{acts_of_batches, IsBelow, AreBelow}
+use Rattle.rm_restart.specs.Plain.{IsPlain, ArePlain}
 
 -- The fields and the batches that were read: those of the content, where it is told.
 pub record WasRead (told : Type 0) (content : Image) (fields : Fields) (batches : List Batch) : Type 0 where
@@ -24,42 +26,43 @@ pub record WasRead (told : Type 0) (content : Image) (fields : Fields) (batches 
   pub are_batches : AreBatches batches
   pub has_log : told → HasLog (content Log) batches
 
--- The pages are those of the log, nothing is pending in it, and the next id is one more than each.
+-- The pages are those of the log, which is plain, nothing is pending in it, and the next id is one more than each.
 pub record Opens (told : Type 0) (content : Image) (limit : ℕ) (pages : List (List Slot)) (next : ℕ) (log : LogValue) (inserted : ℕ) : Type 0 where
   pub fields : Fields
   pub batches : List Batch
   pub read : WasRead told content fields batches
-  pub below : AreBelow fields.pages (history_of batches)
-  pub settled : (id : ℕ) → pending (history_of batches) id ≡ []
+  pub below : AreBelow fields.pages (acts_of_batches batches)
+  pub plain : ArePlain (acts_of_batches batches)
+  pub settled : (id : ℕ) → pending_of (acts_of_batches batches) id ≡ []
   pub count : length pages ≡ fields.pages
-  pub pages_are : (page : ℕ) → page < fields.pages → page_at pages page ≡ page_of (history_of batches) page
-  pub next_is : next ≡ greatest_id (history_of batches) + 1
+  pub pages_are : (page : ℕ) → page < fields.pages → page_at pages page ≡ page_of (acts_of_batches batches) page
+  pub next_is : next ≡ greatest_txn (acts_of_batches batches) + 1
   pub log_is : log ≡ record { batch = gate_of batches; tail = []; limit = limit }
-  pub inserted_is : inserted ≡ inserts (history_of batches)
+  pub inserted_is : inserted ≡ repeat_count (acts_of_batches batches)
 
 -- The transaction is the least that has a pending record.
 pub record NeedsUndoOf (told : Type 0) (content : Image) (id : ℕ) : Type 0 where
   pub fields : Fields
   pub batches : List Batch
   pub read : WasRead told content fields batches
-  pub pends : pending (history_of batches) id ≡ [] → ⊥
-  pub least : (other : ℕ) → other < id → pending (history_of batches) other ≡ []
+  pub pends : pending_of (acts_of_batches batches) id ≡ [] → ⊥
+  pub least : (other : ℕ) → other < id → pending_of (acts_of_batches batches) other ≡ []
 
--- with this record behind it the history names a page that the file lacks, or has a kind that no log has yet, or a page
--- that does not fit
-abbrev pub IsMisfit : ℕ → History → Logged → Type 0
-IsMisfit pages before logged = (IsBelow pages logged.what → ⊥) ⊎ ((page : ℕ) × (CAPACITY < used (page_of (logged ∷ before) page)))
+-- with this record behind it the history names a page that the file lacks, is not plain, or has a page that does not fit
+abbrev pub IsMisfit : ℕ → History → Act → Type 0
+IsMisfit pages before act = (IsBelow pages act → ⊥) ⊎ ((IsPlain act → ⊥) ⊎ ((page : ℕ) × (CAPACITY < used (page_of (act ∷ before) page))))
 
 -- The record with this LSN is the first that names no page of the file, or is of a kind that no log has yet, or with
 -- which its page does not fit.
 pub record IsMisfitAt (pages : ℕ) (history : History) (at : ℕ) : Type 0 where
   pub more : History
-  pub logged : Logged
+  pub act : Act
   pub before : History
-  pub split : history ≡ more ++ logged ∷ before
-  pub place : at ≡ logged.lsn.0
-  pub fits : AreBelow pages before
-  pub misfit : IsMisfit pages before logged
+  pub split : history ≡ more ++ act ∷ before
+  pub place : at ≡ lsn_of act
+  pub below : AreBelow pages before
+  pub plain : ArePlain before
+  pub misfit : IsMisfit pages before act
 
 -- The place of the log at which a read went wrong: out of its grammar, no checkpoint's record, or a misfit.
 pub record IsMisfitOf (content : Image) (at : ℕ) : Type 0 where
@@ -67,7 +70,7 @@ pub record IsMisfitOf (content : Image) (at : ℕ) : Type 0 where
   pub batches : List Batch
   pub read : HasFields (content Master) fields
   pub has_log : HasLog (content Log) batches
-  pub misfit : IsMisfitAt fields.pages (history_of batches) at
+  pub misfit : IsMisfitAt fields.pages (acts_of_batches batches) at
 
 pub record NamesCheckpoint (content : Image) (at : ℕ) : Type 0 where
   pub fields : Fields

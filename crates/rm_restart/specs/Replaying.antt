@@ -8,8 +8,11 @@ use Rattle.rm_types.specs.declared.slots.Slot.TheVariants.{Row}
 use Rattle.rm_types.specs.declared.slots.TheConstants.{CAPACITY}
 use Rattle.rm_model.specs.Pages.{PageValue, used, set_slot}
 use Rattle.rm_model.specs.Session.{page_at}
-use Rattle.rm_history.specs.Histories.{History, Change, page_of, pending, greatest_id, inserts}
-use Rattle.rm_history.specs.Legal.{AreBelow}
+use Rattle.rm_history.specs.Acts.{Change, History}
+use Rattle.rm_history.specs.Contents.{page_of}
+use Rattle.rm_history.specs.Pending.{pending_of, greatest_txn, repeat_count}
+use Rattle.rm_history.specs.Batched.{AreBelow}
+use Rattle.rm_restart.specs.Plain.{ArePlain}
 use Rattle.rm_restart.specs.declared.replay.Replay.{Replay}
 
 -- the slots of each page
@@ -21,14 +24,15 @@ abbrev pub has_some : List Change → Bool
 has_some [] = false
 has_some (newest ∷ before) = true
 
--- The pages are those of the history, and it has these pending transactions, this greatest id and so many inserts.
+-- The pages are those of the history, which is plain and has these pending transactions, this greatest id and so many inserts.
 pub record Replays (pages : ℕ) (history : History) (replay : Replay) : Type 0 where
   pub count : length (slots_of replay.pages.items) ≡ pages
   pub below : AreBelow pages history
+  pub plain : ArePlain history
   pub pages_are : (page : ℕ) → page < pages → page_at (slots_of replay.pages.items) page ≡ page_of history page
-  pub pending_are : (id : ℕ) → contains nat_cmp replay.pending id ≡ has_some (pending history id)
-  pub greatest_is : replay.greatest ≡ greatest_id history
-  pub inserts_are : replay.inserts ≡ inserts history
+  pub pending_are : (id : ℕ) → contains nat_cmp replay.pending id ≡ has_some (pending_of history id)
+  pub greatest_is : replay.greatest ≡ greatest_txn history
+  pub inserts_are : replay.inserts ≡ repeat_count history
 
 -- the row id names no page of these, or its page has no room for the row
 abbrev pub LacksPlace : List (List Slot) → Rid → List ℕ → Type 0

@@ -8,8 +8,11 @@ use Rattle.rm_master.specs.declared.fields.Fields.{Fields}
 use Rattle.rm_master.specs.Slots.{HasFields}
 use Rattle.rm_history.specs.declared.TheConstants.{BATCH_HEADER}
 use Rattle.rm_history.specs.Logs.{Batch, gate_of, HasLog}
-use Rattle.rm_history.specs.Histories.{history_of, rows_of_log, commits}
-use Rattle.rm_history.specs.Legal.{IsLegal, AreBelow, undo_bytes}
+use Rattle.rm_history.specs.Pending.{rows_of_log, commit_count}
+use Rattle.rm_history.specs.Rules.{IsInOrder}
+use Rattle.rm_history.specs.Undoing.{undo_bytes}
+use Rattle.rm_history.specs.Batched.{acts_of_batches, AreBelow}
+use Rattle.rm_restart.specs.Plain.{ArePlain}
 
 -- The image is of a file of so many pages, with the log of these batches. Its master names no checkpoint.
 pub record IsImageOf (pages : ℕ) (batches : List Batch) (c : Image) : Type 0 where
@@ -19,11 +22,13 @@ pub record IsImageOf (pages : ℕ) (batches : List Batch) (c : Image) : Type 0 w
   pub checkpoint : fields.checkpoint ≡ 0
   pub log : HasLog (c Log) batches
 
--- The log is legal, names pages of the file alone, and has room for restart's undo.
+-- The log is in order and plain, names pages of the file alone, and has room for restart's undo. It need not be legal:
+-- the inventory is not kept yet, so the entries do not follow.
 pub record IsSoundLog (pages : ℕ) (batches : List Batch) : Type 0 where
-  pub legal : IsLegal (history_of batches)
-  pub below : AreBelow pages (history_of batches)
-  pub room : gate_of batches + (BATCH_HEADER + undo_bytes (history_of batches)) ≤ MAX_LOG
+  pub in_order : IsInOrder (acts_of_batches batches)
+  pub plain : ArePlain (acts_of_batches batches)
+  pub below : AreBelow pages (acts_of_batches batches)
+  pub room : gate_of batches + (BATCH_HEADER + undo_bytes (acts_of_batches batches)) ≤ MAX_LOG
 
 -- the image is sound
 pub record IsSound (c : Image) : Type 0 where
@@ -35,5 +40,5 @@ pub record IsSound (c : Image) : Type 0 where
 -- the image is sound, and its log has so many commits and these rows
 pub record Holds (count : ℕ) (rows : Rows) (c : Image) : Type 0 where
   pub sound : IsSound c
-  pub commits_are : commits (history_of sound.batches) ≡ count
-  pub rows_are : rows_of_log (history_of sound.batches) ≡ rows
+  pub commits_are : commit_count (acts_of_batches sound.batches) ≡ count
+  pub rows_are : rows_of_log (acts_of_batches sound.batches) ≡ rows

@@ -3,7 +3,7 @@
 //! A restart syncs the five areas, so that what it reads is all that a crash may leave, reads the
 //! master, attaches the log, and replays it from its start into pages in memory. It writes nothing.
 //! A log with the record of a transaction that did not commit is refused. A sound volume, whose log
-//! is legal, is never found damaged.
+//! is in order and has inserts and commits alone, is never found damaged.
 #![tactic(auto)]
 
 mod faults;

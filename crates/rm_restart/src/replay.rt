@@ -1,10 +1,10 @@
 //! Replaying the records of a log into the pages of a file.
 
-ghost use Rattle.std.specs.Prelude.{◌≡◌, ℕ, ◌^◌, ◌<◌, [], ◌∷◌, length, replicate, reverse, IfOk, OnOk, IfErr, IfSome, IfNone};
+ghost use Rattle.std.specs.Prelude.{◌≡◌, ℕ, ◌^◌, ◌<◌, [], ◌∷◌, length, replicate, IfOk, OnOk, IfErr, IfSome, IfNone};
 ghost use Rattle.rm_types.specs.declared.numbers.Lsn.{Lsn as Lsns};
 ghost use Rattle.rm_model.specs.Session.{set_row as with_row_set};
 ghost use Rattle.rm_record.specs.declared.records.LogRecord.TheVariants as log;
-ghost use Rattle.rm_history.specs.Histories.{History};
+ghost use Rattle.rm_history.specs.Acts.{History, act_at, act_of, acts_of};
 ghost use Rattle.rm_restart.specs.Opening.{IsMisfit, IsMisfitAt};
 ghost use Rattle.rm_restart.specs.Outcomes.{IsLeastOf, IsNone};
 ghost use Rattle.rm_restart.specs.Replaying.{slots_of, Replays, LacksPlace};
@@ -99,7 +99,7 @@ impl Replay {
     fn insert(&mut self, txn: TxnId, rid: Rid, row: &[u8], lsn: Lsn) -> Result<(), ReplayRefused>
         requires { self.old.inserts < 2 ^ 63 }
         ensures ok { (pages : ℕ) (history : History) (under : Lsns) (need : ℕ) → Replays pages history self.old
-            → OnOk result (Replays pages (record { lsn = lsn; what = log.Insert txn under rid need row.now } ∷ history) self.new) }
+            → OnOk result (Replays pages (act_at lsn.0 (log.Insert txn under rid need row.now) ∷ history) self.new) }
         ensures misfit { IfErr result (λ refused. IfMisfit refused (λ at. (at ≡ lsn) × LacksPlace (slots_of self.old.pages.items) rid row.now)) }
     {
         set_row(&mut self.pages, rid, row, lsn)?;
@@ -114,7 +114,7 @@ impl Replay {
 
     fn commit(&mut self, txn: TxnId)
         ensures { (pages : ℕ) (history : History) (lsn : Lsns) → Replays pages history self.old
-            → Replays pages (record { lsn = lsn; what = log.Commit txn } ∷ history) self.new }
+            → Replays pages (act_at lsn.0 (log.Commit txn) ∷ history) self.new }
     {
         self.pending.remove(&txn.0);
         self.greatest = txn.0.max(self.greatest);
@@ -123,9 +123,9 @@ impl Replay {
     // Replays one record.
     fn apply(&mut self, logged: &Logged) -> Result<(), ReplayRefused>
         requires { self.old.inserts < 2 ^ 63 }
-        ensures ok { (pages : ℕ) (history : History) → Replays pages history self.old → OnOk result (Replays pages (logged.now ∷ history) self.new) }
+        ensures ok { (pages : ℕ) (history : History) → Replays pages history self.old → OnOk result (Replays pages (act_of logged.now ∷ history) self.new) }
         ensures misfit { (pages : ℕ) (history : History) → Replays pages history self.old
-            → IfErr result (λ refused. IfMisfit refused (λ at. (at ≡ logged.now.lsn) × IsMisfit pages history logged.now)) }
+            → IfErr result (λ refused. IfMisfit refused (λ at. (at ≡ logged.now.lsn) × IsMisfit pages history (act_of logged.now))) }
     {
         match &logged.what {
             LogRecord::Insert { txn, rid, row, .. } => {
@@ -147,8 +147,8 @@ impl Replay {
 
 // Replays the records, the oldest of which comes first, into so many pages.
 pub fn replayed(alloc: Global, pages: u32, records: &[Logged]) -> Result<Replay, ReplayRefused>
-    ensures ok { IfOk result (Replays pages (reverse records.now)) }
-    ensures misfit { IfErr result (λ refused. IfMisfit refused (λ at. IsMisfitAt pages (reverse records.now) at.0)) }
+    ensures ok { IfOk result (Replays pages (acts_of records.now)) }
+    ensures misfit { IfErr result (λ refused. IfMisfit refused (λ at. IsMisfitAt pages (acts_of records.now) at.0)) }
 {
     let mut replay = Replay::new(alloc, pages)?;
     for logged in records {

@@ -1,13 +1,14 @@
 -- Records that are read one after another.
-use Rattle.std.proofs.Common.{◌≡◌, ℕ, ◌+◌, ◌<◌, List, [], ◌∷◌, ◌++◌, length, drop, reverse, refl, sym, ap, ◌∙◌, arith, length-append, append_assoc, add-zero}
-use Rattle.std.proofs.lemmas.List.{append-nil, reverse-append}
+use Rattle.std.proofs.Common.{◌≡◌, ℕ, ◌+◌, ◌<◌, List, [], ◌∷◌, ◌++◌, length, drop, refl, sym, ap, ◌∙◌, arith, length-append, append_assoc, add-zero}
+use Rattle.std.proofs.lemmas.List.{append-nil}
 use Rattle.std.specs.List.{AllByRecursion}
 use Rattle.rm_record.specs.declared.records.LogRecord.{LogRecord}
 use Rattle.rm_record.specs.declared.records.Logged.{Logged}
 use Rattle.rm_record.specs.Records.{spelling, spelling_all, IsRecord}
 use Rattle.rm_history.specs.Logs.{Batch}
-use Rattle.rm_history.specs.Histories.{onto}
-use Rattle.rm_history.proofs.Onto.{onto-snoc}
+use Rattle.rm_history.specs.Acts.{History, act_at, act_of, acts_of}
+use Rattle.rm_history.specs.Batched.{acts_behind}
+use Rattle.rm_history.proofs.Behind.{acts_behind-snoc, acts_of-snoc}
 use Rattle.rm_wal.specs.Batches.{BeginsWithNone, ReadsRecord, ReadsSome, ReadsAll, StopsAt}
 
 -- one record more
@@ -21,7 +22,7 @@ are-snoc (first ∷ front) next are is = (are.0, are-snoc front next are.1 is)
 
 -- no record yet
 pub reads_no_record : (base : ℕ) (bytes : List ℕ) (old : List Logged) → ReadsSome base bytes base bytes old old
-reads_no_record base bytes old = record { front = []; are = tt; cut = refl; place = sym (add-zero base); onto_is = refl }
+reads_no_record base bytes old = record { front = []; are = tt; cut = refl; place = sym (add-zero base); acts_are = refl }
 
 pub reads_one_more : {base at size : ℕ} {bytes rest : List ℕ} {old mid new : List Logged} → ReadsSome base bytes at rest old mid → ReadsRecord at rest size mid new
     → ReadsSome base bytes (at + size) (drop size rest) old new
@@ -34,9 +35,9 @@ reads_one_more {base} {at} {size} {bytes} {rest} {old} {mid} {new} some one =
       cut = some.cut ∙ ap (λ (l : List ℕ). spelling_all some.front ++ l) one.cut ∙ sym (append_assoc (spelling_all some.front) (spelling one.what) (drop size rest))
           ∙ ap (λ (l : List ℕ). l ++ drop size rest) (sym spelled);
       place = omega (arith, some.place, one.size_is, ap length spelled, length-append (spelling_all some.front) (spelling one.what));
-      onto_is = ap reverse one.added ∙ reverse-append mid (here ∷ []) ∙ ap (λ (l : List Logged). here ∷ l) some.onto_is
-          ∙ ap (λ (n : ℕ). let logged : Logged = record { lsn = record { 0 = n }; what = one.what } in logged ∷ onto (reverse old) base some.front) some.place
-          ∙ sym (onto-snoc (reverse old) base some.front one.what);
+      acts_are = ap acts_of one.added ∙ acts_of-snoc mid here ∙ ap (λ (h : History). act_of here ∷ h) some.acts_are
+          ∙ ap (λ (n : ℕ). act_at n one.what ∷ acts_behind (acts_of old) base some.front) some.place
+          ∙ sym (acts_behind-snoc (acts_of old) base some.front one.what);
     }
 
 -- and then nothing is left
@@ -45,7 +46,7 @@ reads_to_end some ended = record {
   batch = some.front;
   are = some.are;
   spelled = some.cut ∙ ap (λ (l : List ℕ). spelling_all some.front ++ l) ended ∙ append-nil (spelling_all some.front);
-  onto_is = some.onto_is;
+  acts_are = some.acts_are;
 }
 
 -- and then no record follows

@@ -1,9 +1,10 @@
 -- What is read when a log is attached.
-use Rattle.std.specs.Prelude.{◌≡◌, ℕ, List, [], reverse}
+use Rattle.std.specs.Prelude.{◌≡◌, ℕ, List, []}
 use Rattle.rm_outside.specs.Images.{Bytes}
 use Rattle.rm_record.specs.declared.records.Logged.{Logged}
 use Rattle.rm_history.specs.Logs.{Batch, gate_of, AreBatches, HasLog}
-use Rattle.rm_history.specs.Histories.{history_of}
+use Rattle.rm_history.specs.Acts.{acts_of}
+use Rattle.rm_history.specs.Batched.{acts_of_batches}
 use Rattle.rm_wal.specs.Tails.{LogValue}
 
 -- The log in memory stands behind the batches of the area, which it tells if told, and the records are
@@ -13,4 +14,4 @@ pub record Attaches (told : Type 0) (area : Bytes) (limit : ℕ) (log : LogValue
   pub are_batches : AreBatches batches
   pub has_log : told → HasLog area batches
   pub log_is : log ≡ record { batch = gate_of batches; tail = []; limit = limit }
-  pub history_is : history_of batches ≡ reverse records
+  pub history_is : acts_of_batches batches ≡ acts_of records

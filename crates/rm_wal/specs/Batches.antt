@@ -1,5 +1,5 @@
 -- What is read from a batch.
-use Rattle.std.specs.Prelude.{◌≡◌, ℕ, ◌+◌, ◌^◌, ◌<◌, List, [], ◌∷◌, ◌++◌, length, drop, reverse, Option, Some, None, ◌⊎◌}
+use Rattle.std.specs.Prelude.{◌≡◌, ℕ, ◌+◌, ◌^◌, ◌<◌, List, [], ◌∷◌, ◌++◌, length, drop, Option, Some, None, ◌⊎◌}
 use Rattle.std.specs.Int.{to_be_bytes, w32}
 use Rattle.std.specs.List.{AllByRecursion}
 use Rattle.rm_outside.specs.Images.{Bytes, Shows}
@@ -8,7 +8,8 @@ use Rattle.rm_record.specs.declared.records.Logged.{Logged}
 use Rattle.rm_record.specs.Records.{spelling, spelling_all, IsRecord}
 use Rattle.rm_history.specs.declared.TheConstants.{BATCH_HEADER}
 use Rattle.rm_history.specs.Logs.{Batch, gate_of, body_of, IsInRange, IsBatch, AreBatches, Stands, HasWrongLength, HasWrongRecord}
-use Rattle.rm_history.specs.Histories.{onto, history_of}
+use Rattle.rm_history.specs.Acts.{acts_of}
+use Rattle.rm_history.specs.Batched.{acts_behind, acts_of_batches}
 
 -- no record's spelling begins the bytes
 pub record BeginsWithNone (bytes : List ℕ) : Type 0 where
@@ -28,14 +29,14 @@ pub record ReadsSome (base : ℕ) (bytes : List ℕ) (at : ℕ) (rest : List ℕ
   pub are : AllByRecursion IsRecord front
   pub cut : bytes ≡ spelling_all front ++ rest
   pub place : at ≡ base + length (spelling_all front)
-  pub onto_is : reverse new ≡ onto (reverse old) base front
+  pub acts_are : acts_of new ≡ acts_behind (acts_of old) base front
 
 -- the bytes are these records, which were put behind the old ones
 pub record ReadsAll (base : ℕ) (bytes : List ℕ) (old new : List Logged) : Type 0 where
   pub batch : Batch
   pub are : AllByRecursion IsRecord batch
   pub spelled : bytes ≡ spelling_all batch
-  pub onto_is : reverse new ≡ onto (reverse old) base batch
+  pub acts_are : acts_of new ≡ acts_behind (acts_of old) base batch
 
 -- the bytes are some records and then, from that place on, bytes that begin with none
 pub record StopsAt (base : ℕ) (bytes : List ℕ) (at : ℕ) : Type 0 where
@@ -71,7 +72,7 @@ pub record ReadsBatch (told : Type 0) (area : Bytes) (gate next : ℕ) (old new 
   pub is : IsBatch gate batch
   pub shown : told → (area gate ≡ 1) × Shows area (gate + 1) (body_of batch)
   pub next_is : next ≡ gate + (BATCH_HEADER + length (spelling_all batch))
-  pub onto_is : reverse new ≡ onto (reverse old) (gate + BATCH_HEADER) batch
+  pub acts_are : acts_of new ≡ acts_behind (acts_of old) (gate + BATCH_HEADER) batch
 
 -- what was read at a gate: no batch, or one
 abbrev pub ReadsGate : Type 0 → Bytes → ℕ → List Logged → List Logged → Option ℕ → Type 0
@@ -89,7 +90,7 @@ pub record ReadsBatches (told : Type 0) (area : Bytes) (gate : ℕ) (records : L
   pub are_batches : AreBatches batches
   pub stands : told → Stands area batches
   pub gate_is : gate ≡ gate_of batches
-  pub history_is : history_of batches ≡ reverse records
+  pub history_is : acts_of_batches batches ≡ acts_of records
 
 -- these are all batches: the gate behind them is closed
 pub record ReadsAllBatches (told : Type 0) (area : Bytes) (gate : ℕ) (records : List Logged) : Type 0 where

@@ -1,19 +1,19 @@
 -- Where nothing fails, what is due for a command tells that it was done.
-use Rattle.std.proofs.Common.{◌≡◌, ℕ, Bool, true, false, List, [], Option, Some, None, refl, sym, ap, ◌∙◌, subst, inl, inr, ◌⊎◌, arith}
+use Rattle.std.proofs.Common.{◌≡◌, ℕ, Bool, true, false, List, [], Option, Some, None, refl, sym, ap, ◌∙◌, subst, inl, inr, arith}
 use Rattle.std.proofs.lemmas.Bool.{true≢false}
 use Rattle.std.specs.Prelude.{MatchBool}
 use Rattle.rm_types.specs.declared.areas.Area.{Area}
 use Rattle.rm_types.specs.declared.areas.Area.TheVariants.{Log}
 use Rattle.rm_types.specs.declared.lines.Line.{Line}
 use Rattle.rm_types.specs.declared.lines.Which.TheVariants as which
-use Rattle.rm_types.specs.declared.numbers.TxnId.{TxnId}
 use Rattle.rm_outside.specs.Images.{Image}
 use Rattle.rm_model.specs.Session.{State}
-use Rattle.rm_model.specs.Grammar.{IsTurns, IsPlain, IsWithinLimits}
+use Rattle.rm_model.specs.Grammar.{IsTurns, IsWithinLimits}
 use Rattle.rm_model.proofs.Turns.{none_wrong}
 use Rattle.rm_types.specs.declared.operations.Reply.{Reply}
 use Rattle.rm_history.specs.Logs.{Batch}
-use Rattle.rm_history.specs.Histories.{history_of, pending}
+use Rattle.rm_history.specs.Pending.{pending_of}
+use Rattle.rm_history.specs.Batched.{acts_of_batches}
 use Rattle.rm_history.proofs.Readings.{log_once}
 use Rattle.rm_restart.specs.Opening.{NeedsUndoOf}
 use Rattle.rm_restart.proofs.Soundness.{sound_is_made, sound_is_not_damaged}
@@ -23,7 +23,7 @@ use Rattle.rmtool.specs.declared.commands.Command.TheVariants as command
 use Rattle.rmtool.specs.declared.statuses.Status.{Status}
 use Rattle.rmtool.specs.declared.statuses.Status.TheVariants as status
 use Rattle.rmtool.specs.Reading.{HasLeft}
-use Rattle.rmtool.specs.Told.{is_sink, IsWritten, Answers}
+use Rattle.rmtool.specs.Told.{is_sink, Answers}
 use Rattle.rmtool.specs.Volumes.{IsMade, CreateText, RefusedText, RestartText}
 use Rattle.rmtool.specs.Turns.{RunText, ScriptText, TurnsDue}
 use Rattle.rmtool.specs.Complete.{IsDone, IsDoneOrRefused, IsSettled, EndsRight}
@@ -34,7 +34,7 @@ use Rattle.rmtool.proofs.PlainLemmas.{plain_done}
 settled : (told : Type 0) (content : Image) (id : ℕ) → NeedsUndoOf told content id → told → IsSettled content → ⊥
 settled told content id needs tells calm =
     let same = log_once (content Log) needs.batches calm.sound.batches (needs.read.has_log tells) calm.sound.image.log in
-    needs.pends (subst (λ (b : List Batch). pending (history_of b) id ≡ []) (sym same) (calm.none id))
+    needs.pends (subst (λ (b : List Batch). pending_of (acts_of_batches b) id ≡ []) (sym same) (calm.none id))
 
 module _ (told : Type 0) (content : Image) (risen : Area → Type 0) (tells : told) (well : (area : Area) → risen area → ⊥) where
   -- a volume that is not made

@@ -1,5 +1,5 @@
 -- Images of a volume of one page, and what they hold.
-use Rattle.std.proofs.Common.{◌≡◌, ℕ, zero, suc, ◌<◌, if◌then◌else◌, List, [], ◌∷◌, ◌++◌, get_or, replicate, None, refl, sym, ap, subst, ◌∙◌, arith, lit<, lit≤}
+use Rattle.std.proofs.Common.{◌≡◌, ℕ, zero, suc, ◌<◌, ◌≤◌, if◌then◌else◌, List, [], ◌∷◌, ◌++◌, get_or, replicate, None, refl, sym, ap, subst, ◌∙◌, arith, lit<, lit≤}
 use Rattle.std.specs.Prelude.{nat_lt}
 use Rattle.std.proofs.Math.Dec.{eqb-zero-suc}
 use Rattle.std.specs.List.{AllByRecursion}
@@ -10,18 +10,25 @@ use Rattle.rm_types.specs.declared.lines.Line.TheVariants as line
 use Rattle.rm_types.specs.declared.numbers.Rid.{Rid}
 use Rattle.rm_types.specs.declared.operations.Reply.{Reply}
 use Rattle.rm_types.specs.declared.operations.Reply.TheVariants as reply
+use Rattle.rm_types.specs.declared.slots.Slot.TheVariants.{Vacant, Row}
+use Rattle.rm_types.specs.declared.slots.TheConstants.{CAPACITY}
 use Rattle.rm_outside.specs.Images.{Image, Shows}
+use Rattle.rm_model.specs.Pages.{used}
 use Rattle.rm_model.specs.Object.{Rows, with_row}
 use Rattle.rm_record.specs.declared.records.LogRecord.TheVariants.{Insert, Commit}
 use Rattle.rm_record.specs.Records.{IsRecord}
 use Rattle.rm_master.specs.Fields.{slot_bytes, fresh_fields}
 use Rattle.rm_master.specs.Fresh.{IsFresh}
 use Rattle.rm_master.proofs.Writing.{fresh-IsFields}
-use Rattle.rm_history.specs.Histories.{history_of, commits}
-use Rattle.rm_history.specs.Legal.{Fits}
+use Rattle.rm_history.specs.Acts.{Act, changes, commits}
+use Rattle.rm_history.specs.Contents.{page_of}
+use Rattle.rm_history.specs.Pending.{commit_count}
+use Rattle.rm_history.specs.Batched.{acts_of_batches}
 use Rattle.rm_history.specs.Logs.{Batch, body_of, HasLog}
 use Rattle.rm_history.proofs.Readings.{log_once}
+use Rattle.rm_restart.specs.Plain.{ArePlain}
 use Rattle.rm_restart.specs.Sound.{IsSoundLog, Holds}
+use Rattle.rm_restart.proofs.PlainLaws.{plain_fits}
 use Rattle.rm_restart.proofs.Soundness.{fresh_is_sound}
 use Rattle.rm_engine.specs.Runs.{HasAcknowledged}
 
@@ -68,7 +75,7 @@ made_holds = (fresh_is_sound 1 made made_fresh).0
 pub made_count : (count : ℕ) (rows : Rows) → Holds count rows made → count ≡ 0
 made_count count rows held =
     let same : held.sound.batches ≡ [] = log_once (made area.Log) held.sound.batches [] held.sound.image.log (record { stands = tt; closed = made_fresh.cleared.gate }) in
-    sym held.commits_are ∙ ap (λ (batches : List Batch). commits (history_of batches)) same
+    sym held.commits_are ∙ ap (λ (batches : List Batch). commit_count (acts_of_batches batches)) same
 
 -- the same volume with a log of one batch: a transaction inserted a row and committed
 abbrev pub row : List ℕ
@@ -93,8 +100,8 @@ row_bytes (suc k) = lit< tt
 
 records : AllByRecursion IsRecord batch
 records = (
-  record { by = (lit< tt, lit< tt); above = lit< tt; place = (lit< tt, lit≤ tt); reserved = lit≤ tt; short = lit≤ tt; are_bytes = row_bytes },
-  (record { by = (lit< tt, lit< tt) }, tt),
+  (record { by = (lit< tt, lit< tt); above = lit< tt; place = (lit< tt, lit≤ tt); reserved = lit≤ tt }, record { short = lit≤ tt; are_bytes = row_bytes }),
+  ((lit< tt, lit< tt), tt),
 )
 
 logged_has_log : HasLog (logged area.Log) (batch ∷ [])
@@ -108,18 +115,38 @@ logged_has_log = record {
   closed = λ e. omega (arith, e);
 }
 
+-- what its records do
+abbrev insert : Act
+insert = changes (record { lsn = 5; txn = 1; under = 0; rid = first; need = 0; before = Vacant; after = Row row })
+
+abbrev commit : Act
+commit = commits (record { lsn = 29; txn = 1 })
+
+acts : acts_of_batches (batch ∷ []) ≡ commit ∷ insert ∷ []
+acts = refl
+
 -- the page with the row fits, and any other is empty
-fits : Fits (history_of (batch ∷ []))
+fits : (page : ℕ) → used (page_of (acts_of_batches (batch ∷ [])) page) ≤ CAPACITY
 fits zero = lit≤ tt
 fits (suc page) = rw (eqb-zero-suc page) (lit≤ tt)
 
+inserted : ArePlain (insert ∷ [])
+inserted = (record { row = row; before_is = refl; after_is = refl }, tt)
+
 logged_sound : IsSoundLog 1 (batch ∷ [])
 logged_sound = record {
-  legal = (
-    (tt, record { unfinished = λ is. is; vacant = refl; others = λ other differs has. absurd has; under_is = refl; need_is = refl }, fits),
-    λ is. is,
-    fits,
+  in_order = (
+    (
+      tt,
+      record {
+        above = lit< tt;
+        may_come = record { unfinished = λ is. is; held = refl; others = λ other differs has. absurd has; under_is = refl; need_is = refl };
+        fits = plain_fits (insert ∷ []) inserted fits;
+      },
+    ),
+    record { above = lit< tt; may_come = λ is. is; fits = plain_fits (commit ∷ insert ∷ []) (tt, inserted) fits },
   );
+  plain = (tt, inserted);
   below = (tt, (lit< tt, tt));
   room = lit≤ tt;
 }
@@ -140,7 +167,7 @@ logged_holds = record {
 pub logged_count : (count : ℕ) (rows : Rows) → Holds count rows logged → count ≡ 1
 logged_count count rows held =
     let same : held.sound.batches ≡ batch ∷ [] = log_once (logged area.Log) held.sound.batches (batch ∷ []) held.sound.image.log logged_has_log in
-    sym held.commits_are ∙ ap (λ (batches : List Batch). commits (history_of batches)) same
+    sym held.commits_are ∙ ap (λ (batches : List Batch). commit_count (acts_of_batches batches)) same
 
 -- behind a run that was told of its commit the image with it may be left, and the one without it may not
 abbrev lines : List Line

@@ -17,7 +17,8 @@ use Rattle.rm_model.specs.Object.{Rows}
 use Rattle.rm_model.specs.Session.{State, opened}
 use Rattle.rm_master.specs.Slots.{IsUnmade}
 use Rattle.rm_history.specs.Logs.{Batch}
-use Rattle.rm_history.specs.Histories.{history_of, rows_of_log, commits}
+use Rattle.rm_history.specs.Pending.{rows_of_log, commit_count}
+use Rattle.rm_history.specs.Batched.{acts_of_batches}
 use Rattle.rm_wal.specs.Tails.{LogValue}
 use Rattle.rm_restart.specs.Opening.{Opens, NeedsUndoOf, IsDamage}
 use Rattle.rm_restart.specs.Sound.{IsImageOf, IsSound}
@@ -83,19 +84,19 @@ module _ (told : Type 0) (content : Image) (left half_left leaves : Image → Ty
     (synced : (c : Image) → half_left c → c ≡ content) (time : LeavesOnly before mid past half left) (then_risen : (area : Area) → risen area → later area) where
   -- from a sound content on the images are those of the run
   run_images : (done : List Line) (replies : List Reply) (asked : Option Line) → LeavesRun engine half_left leaves mid now half since done replies asked → told → (sound : IsSound content)
-      → HasRunImages (commits (history_of sound.batches)) (rows_of_log (history_of sound.batches)) left leaves before now past since done replies asked
+      → HasRunImages (commit_count (acts_of_batches sound.batches)) (rows_of_log (acts_of_batches sound.batches)) left leaves before now past since done replies asked
   run_images done replies asked leaves_run tells sound =
       let read = opened_is_sound told content MAX_LOG pages next log inserted opens tells sound in
       let at = at_opened told content MAX_LOG pages next log inserted opens half_left read.sound_log (λ c may. subst (λ (image : Image). IsImageOf opens.fields.pages opens.batches image) (sym (synced c may)) read.image) in
-      let standing = at_engine engine pages next log opens.fields.pages (commits (history_of opens.batches)) (rows_of_log (history_of opens.batches)) half_left session log_is under inserts at in
+      let standing = at_engine engine pages next log opens.fields.pages (commit_count (acts_of_batches opens.batches)) (rows_of_log (acts_of_batches opens.batches)) half_left session log_is under inserts at in
       let idle : engine.session.core.active ≡ false = ap (λ (s : State). s.core.active) session in
-      let run = leaves_run opens.fields.pages (commits (history_of opens.batches)) (rows_of_log (history_of opens.batches)) standing idle in
-      subst (λ (b : List Batch). HasRunImages (commits (history_of b)) (rows_of_log (history_of b)) left leaves before now past since done replies asked) (sym read.batches_are)
+      let run = leaves_run opens.fields.pages (commit_count (acts_of_batches opens.batches)) (rows_of_log (acts_of_batches opens.batches)) standing idle in
+      subst (λ (b : List Batch). HasRunImages (commit_count (acts_of_batches b)) (rows_of_log (acts_of_batches b)) left leaves before now past since done replies asked) (sym read.batches_are)
       (record { any_moment = joined (weaker time (λ c l. inl l)) (weaker run.0 (λ c has. inr has)); durable = run.1 })
 
   abbrev Leaves : List Line → List Reply → Option Line → Type 0
   Leaves done replies asked = told → (sound : IsSound content)
-      → HasRunImages (commits (history_of sound.batches)) (rows_of_log (history_of sound.batches)) left leaves before now past since done replies asked
+      → HasRunImages (commit_count (acts_of_batches sound.batches)) (rows_of_log (acts_of_batches sound.batches)) left leaves before now past since done replies asked
 
   pub lines_due : (answer : Status) (text : List ℕ) → RunText engine.session (used_by engine) lines (LeavesRun engine half_left leaves mid now half since) risen answer text
       → LinesDue told content left leaves before now past since later lines answer text

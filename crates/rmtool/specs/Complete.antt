@@ -4,7 +4,8 @@ use Rattle.rm_types.specs.declared.lines.Line.{Line}
 use Rattle.rm_types.specs.declared.numbers.TxnId.{TxnId}
 use Rattle.rm_outside.specs.Images.{Image}
 use Rattle.rm_model.specs.Grammar.{IsPlain, IsTurns, IsWithinLimits}
-use Rattle.rm_history.specs.Histories.{history_of, pending}
+use Rattle.rm_history.specs.Pending.{pending_of}
+use Rattle.rm_history.specs.Batched.{acts_of_batches}
 use Rattle.rm_restart.specs.Sound.{IsSound}
 use Rattle.rmtool.specs.declared.commands.Command.{Command}
 use Rattle.rmtool.specs.declared.commands.Command.TheVariants as command
@@ -23,7 +24,7 @@ IsDoneOrRefused answer = IsDone answer ⊎ (((end : ℕ) × (answer ≡ status.L
 -- the volume is sound, and each transaction that its log has inserts of is committed
 pub record IsSettled (content : Image) : Type 0 where
   pub sound : IsSound content
-  pub none : (id : ℕ) → pending (history_of sound.batches) id ≡ []
+  pub none : (id : ℕ) → pending_of (acts_of_batches sound.batches) id ≡ []
 
 -- With a right script, and a volume that is settled, or not made for `create`, a command is done, but for want of
 -- memory; `turns` also but for want of log room or of ids.

@@ -13,7 +13,8 @@ use Rattle.rm_model.specs.Object.{Rows}
 use Rattle.rm_model.specs.Session.{State, opened}
 use Rattle.rm_model.specs.Grammar.{IsTurns, IsFirstWrongTurns, IsWithinLimits}
 use Rattle.rm_model.specs.Texts.{turn_lines, unfinished_line}
-use Rattle.rm_history.specs.Histories.{history_of, rows_of_log, commits}
+use Rattle.rm_history.specs.Pending.{rows_of_log, commit_count}
+use Rattle.rm_history.specs.Batched.{acts_of_batches}
 use Rattle.rm_script.specs.Refusals.{HasTooMuch}
 use Rattle.rm_wal.specs.Tails.{LogValue}
 use Rattle.rm_restart.specs.Sound.{IsSound}
@@ -94,7 +95,7 @@ pub record OpenedText (told : Type 0) (content : Image) (left leaves : Image →
   pub inserted : ℕ
   pub opens : Opens told content MAX_LOG pages next log inserted
   pub written : RunText (opened pages next) (used_of log 0) lines (λ done replies asked. told → (sound : IsSound content)
-      → HasRunImages (commits (history_of sound.batches)) (rows_of_log (history_of sound.batches)) left leaves before now past since done replies asked) risen answer text
+      → HasRunImages (commit_count (acts_of_batches sound.batches)) (rows_of_log (acts_of_batches sound.batches)) left leaves before now past since done replies asked) risen answer text
 
 -- what is due for the lines of a script
 abbrev pub LinesDue : Type 0 → Image → (Image → Type 0) → (Image → Type 0) → ℕ → ℕ → (ℕ → Image → Type 0) → (ℕ → Image → Type 0) → (Area → Type 0) → List Line → Status → List ℕ → Type 0
