@@ -1,10 +1,8 @@
 -- The pending changes of all transactions in one list, and those of each transaction.
-use Rattle.std.proofs.Common.{◌≡◌, inl, inr, ℕ, ◌==◌, if◌then◌else◌, Bool, true, false, cond, eqb, List, [], ◌∷◌, refl, sym, ap, ◌∙◌}
+use Rattle.std.proofs.Common.{◌≡◌, inl, inr, ℕ, ◌==◌, if◌then◌else◌, cond, eqb, List, [], ◌∷◌, refl, sym, ap, ◌∙◌}
 use Rattle.std.proofs.lemmas.Bool.{cases_eq, eq-eqb, ne_eqb}
 use Rattle.rm_history.specs.Acts.{Change, Undo, Finish, History, changes, undoes, enters, commits, ends, lists}
-use Rattle.rm_history.specs.Contents.{entry_of}
 use Rattle.rm_history.specs.Pending.{older, pending_of, without_newest, without, all_pending}
-use Rattle.rm_history.specs.Undoing.{category_after, entry_for, some_lsn}
 
 -- the changes that are of a transaction
 abbrev pub of_txn : ℕ → List Change → List Change

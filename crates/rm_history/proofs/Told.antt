@@ -4,8 +4,7 @@ use Rattle.rm_types.specs.declared.slots.Slot.{Slot}
 use Rattle.rm_types.specs.declared.slots.Slot.TheVariants.{Vacant, Row}
 use Rattle.rm_record.specs.declared.records.LogRecord.{LogRecord}
 use Rattle.rm_record.specs.declared.records.LogRecord.TheVariants.{Insert, Delete, Update, Compensate, Inventory, Commit, End, Checkpoint}
-use Rattle.rm_record.specs.declared.records.Logged.{Logged}
-use Rattle.rm_history.specs.Acts.{Act, Change, changes, undoes, enters, commits, ends, lists, act_at, act_of, lsn_of}
+use Rattle.rm_history.specs.Acts.{Act, Change, changes, undoes, enters, commits, ends, lists, act_at, lsn_of}
 use Rattle.rm_history.specs.Laws.{ActsTellRecords}
 use Rattle.rm_history.proofs.Behind.{lsn_of-act_at}
 

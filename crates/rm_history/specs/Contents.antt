@@ -6,7 +6,7 @@ use Rattle.rm_types.specs.declared.numbers.TheConstants.{MAX_CATEGORY}
 use Rattle.rm_model.specs.Pages.{used, set_slot}
 use Rattle.rm_types.specs.declared.numbers.TheConstants.{BLOCK_PAGES}
 use Rattle.rm_history.specs.declared.TheConstants.{CATEGORY_BYTES}
-use Rattle.rm_history.specs.Acts.{Act, History, changes, undoes, enters, commits, ends, lists}
+use Rattle.rm_history.specs.Acts.{History, changes, undoes, enters, commits, ends, lists}
 
 -- what a slot holds: nothing past the directory
 abbrev pub slot_at : List Slot → ℕ → Slot

@@ -1,5 +1,5 @@
 -- The meaning of a log once more, said of the log as it stands, the oldest record first. It is the same (Laws).
-use Rattle.std.specs.Prelude.{◌≡◌, ℕ, ◌+◌, ◌≤◌, ◌==◌, if◌then◌else◌, List, [], ◌∷◌, ◌++◌, Bool, true, false, ◌||◌, not, sum_by, Option, Some, None, ◌⊎◌}
+use Rattle.std.specs.Prelude.{◌≡◌, ℕ, ◌+◌, ◌≤◌, ◌==◌, if◌then◌else◌, List, [], ◌∷◌, ◌++◌, Bool, false, ◌||◌, sum_by, None}
 use Rattle.rm_model.specs.Pages.{row_length}
 use Rattle.rm_model.specs.Object.{Rows}
 use Rattle.rm_history.specs.Acts.{Act, Change, changes, undoes, enters, commits, ends, lists}

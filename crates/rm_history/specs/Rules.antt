@@ -1,5 +1,5 @@
 -- Which histories are legal.
-use Rattle.std.specs.Prelude.{◌≡◌, ℕ, ◌<◌, ◌==◌, List, [], ◌∷◌, Option, Some, None, ◌⊎◌}
+use Rattle.std.specs.Prelude.{◌≡◌, ℕ, ◌<◌, List, [], ◌∷◌, ◌⊎◌}
 use Rattle.rm_types.specs.declared.places.Place.{Place}
 use Rattle.rm_model.specs.Pages.{set_slot}
 use Rattle.rm_history.specs.Acts.{Act, Change, Undo, Entry, Finish, Listing, History, changes, undoes, enters, commits, ends, lists, lsn_of, newest_lsn}

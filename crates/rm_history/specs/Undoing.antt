@@ -1,13 +1,11 @@
 -- How what is pending is undone: one change, a transaction, and all that a crash left unfinished.
-use Rattle.std.specs.Prelude.{◌≡◌, ℕ, ◌+◌, ◌*◌, ◌<◌, ◌==◌, nat_lt, if◌then◌else◌, List, [], ◌∷◌, length, ◌⊎◌}
-use Rattle.rm_types.specs.declared.numbers.Lsn.{Lsn}
-use Rattle.rm_types.specs.declared.numbers.TxnId.{TxnId}
+use Rattle.std.specs.Prelude.{◌≡◌, ℕ, ◌+◌, ◌<◌, ◌==◌, nat_lt, if◌then◌else◌, List, [], ◌∷◌, length, ◌⊎◌}
 use Rattle.rm_model.specs.Pages.{set_slot}
 use Rattle.rm_record.specs.declared.records.LogRecord.{LogRecord}
 use Rattle.rm_record.specs.declared.records.LogRecord.TheVariants.{Compensate, Inventory, End}
 use Rattle.rm_record.specs.Records.{spelling}
 use Rattle.rm_history.specs.declared.TheConstants.{BATCH_HEADER}
-use Rattle.rm_history.specs.Acts.{Change, Undo, Entry, Finish, History, changes, undoes, enters, commits, ends, lists, newest_lsn}
+use Rattle.rm_history.specs.Acts.{Change, Undo, Entry, History, changes, undoes, enters, commits, ends, lists, newest_lsn}
 use Rattle.rm_history.specs.Contents.{page_of, category_of, entry_of}
 use Rattle.rm_history.specs.Pending.{pending_of, all_pending}
 
