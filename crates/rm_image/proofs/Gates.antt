@@ -1,5 +1,5 @@
 -- The gates of records rise with their LSNs.
-use Rattle.std.proofs.Common.{◌≡◌, ℕ, ◌≤◌, ◌<◌, List, [], ◌∷◌, inl, inr, arith}
+use Rattle.std.proofs.Common.{ℕ, ◌≤◌, List, [], ◌∷◌, inl, inr, arith}
 use Rattle.std.proofs.lemmas.Bool.{cases_lt, lt-ltb, le-ltb}
 use Rattle.rm_history.specs.Logs.{Batch, gate_of}
 use Rattle.rm_history.specs.Batched.{batch_of}
