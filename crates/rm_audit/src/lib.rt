@@ -1,0 +1,12 @@
+//! A plain check of logs: what a log says of pages and transactions, and whether it is legal.
+//!
+//! A log is a slice of records, the oldest first. Each answer is one pass over it, or a few, and each
+//! contract is the definition that it answers by, of the history of the log's records
+//! (docs/DEFINITIONS.md). Nothing is kept from one answer to the next.
+#![tactic(auto)]
+
+mod changes;
+mod pages;
+mod slots;
+
+pub use changes::Change;
