@@ -7,6 +7,9 @@
 
 mod changes;
 mod pages;
+mod pending;
 mod slots;
 
 pub use changes::Change;
+pub use pages::{entry, page, version};
+pub use pending::{all_pending, pending_changes};
