@@ -1,8 +1,8 @@
 -- The newest change of a transaction in a list of changes, the oldest first.
-use Rattle.std.proofs.Common.{◌≡◌, ℕ, ◌-◌, eqb, List, [], ◌∷◌, ◌++◌, length, Option, Some, None, reverse, refl, sym, ap, ◌∙◌, arith}
+use Rattle.std.proofs.Common.{◌≡◌, ℕ, ◌+◌, ◌-◌, ◌<◌, eqb, get_or, take, List, [], ◌∷◌, ◌++◌, length, Option, Some, None, reverse, refl, sym, ap, ◌∙◌, arith}
 use Rattle.std.specs.List.{remove}
 use Rattle.std.proofs.lemmas.Bool.{eq-eqb, ne_eqb}
-use Rattle.std.proofs.lemmas.List.{append-nil, length-append, reverse-append}
+use Rattle.std.proofs.lemmas.List.{append-nil, length-append, reverse-append, take_more}
 use Rattle.std.proofs.lemmas.List.Edits.{remove-append_left, remove-append_right}
 use Rattle.rm_history.specs.Acts.{Change}
 use Rattle.rm_history.specs.Pending.{without_newest}
@@ -35,3 +35,8 @@ newest_of_other txn front change (Some at) other is =
     ap (λ (l : List Change). without_newest l txn) (reverse-push front change)
     ∙ rw (ne_eqb change.txn txn other) (ap (λ (l : List Change). change ∷ l) is.1)
     ∙ sym (ap reverse (remove-append_left front (change ∷ []) at is.0) ∙ reverse-push (remove front at) change))
+
+-- the front of a list with a change more, the other way round
+pub reverse_more : (changes : List Change) (i : ℕ) (change : Change) → i < length changes → change ≡ get_or changes i change → reverse (take (i + 1) changes) ≡ change ∷ reverse (take i changes)
+reverse_more changes i change inside is =
+    ap reverse (take_more changes i change inside ∙ ap (λ (x : Change). take i changes ++ x ∷ []) (sym is)) ∙ reverse-push (take i changes) change

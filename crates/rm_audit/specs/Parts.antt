@@ -3,6 +3,7 @@ use Rattle.std.specs.Prelude.{◌≡◌, ℕ, ◌<◌, ◌==◌, if◌then◌els
 use Rattle.std.specs.List.{remove}
 use Rattle.rm_history.specs.Acts.{Act, Change, changes, undoes, enters, commits, ends, lists}
 use Rattle.rm_history.specs.Pending.{without_newest}
+use Rattle.rm_history.specs.Needs.{on_page, need_for}
 
 -- the change that a record makes, if it makes one forward
 abbrev pub change_in : Act → Option Change
@@ -13,15 +14,6 @@ change_in (commits f) = None
 change_in (ends f) = None
 change_in (lists l) = None
 
--- the transaction that a record is of
-abbrev pub txn_in : Act → Option ℕ
-txn_in (changes c) = Some c.txn
-txn_in (undoes u) = Some u.txn
-txn_in (enters e) = Some e.txn
-txn_in (commits f) = Some f.txn
-txn_in (ends f) = Some f.txn
-txn_in (lists l) = None
-
 -- the changes that are of a transaction
 abbrev pub of_txn : ℕ → List Change → List Change
 of_txn txn [] = []
@@ -31,3 +23,7 @@ of_txn txn (newest ∷ before) = if newest.txn == txn then newest ∷ of_txn txn
 abbrev pub IsNewestOf : ℕ → List Change → Option ℕ → Type 0
 IsNewestOf txn oldest None = without_newest (reverse oldest) txn ≡ reverse oldest
 IsNewestOf txn oldest (Some at) = (at < length oldest) × (without_newest (reverse oldest) txn ≡ reverse (remove oldest at))
+
+-- the bytes that a transaction's undo may need on a page, where these changes are all that is pending, the newest first
+abbrev pub need_in : List Change → ℕ → ℕ → ℕ
+need_in pending page txn = need_for (on_page page (of_txn txn pending))

@@ -6,10 +6,14 @@
 #![tactic(auto)]
 
 mod changes;
+mod needs;
 mod pages;
 mod pending;
 mod slots;
+mod transactions;
 
 pub use changes::Change;
+pub use needs::need;
 pub use pages::{entry, page, version};
 pub use pending::{all_pending, pending_changes};
+pub use transactions::{has_record, is_finished};
