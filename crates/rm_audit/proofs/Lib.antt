@@ -2,3 +2,4 @@ pub mod Fronts
 pub mod Kept
 pub mod Newest
 pub mod Pendings
+pub mod Sums

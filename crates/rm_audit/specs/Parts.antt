@@ -27,3 +27,8 @@ IsNewestOf txn oldest (Some at) = (at < length oldest) × (without_newest (rever
 -- the bytes that a transaction's undo may need on a page, where these changes are all that is pending, the newest first
 abbrev pub need_in : List Change → ℕ → ℕ → ℕ
 need_in pending page txn = need_for (on_page page (of_txn txn pending))
+
+-- the newest of these changes is of the transaction
+abbrev pub IsLed : ℕ → List Change → Type 0
+IsLed txn [] = ⊥
+IsLed txn (newest ∷ before) = newest.txn ≡ txn

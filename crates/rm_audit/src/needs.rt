@@ -7,7 +7,7 @@ ghost use Rattle.rm_model.specs.Pages.{used as used_by};
 ghost use Rattle.rm_history.specs.Acts.{Change as Changes, acts_of};
 ghost use Rattle.rm_history.specs.Contents.{page_of};
 ghost use Rattle.rm_history.specs.Needs.{need_of, sum_below};
-ghost use Rattle.rm_audit.specs.Parts.{need_in};
+ghost use Rattle.rm_audit.specs.Parts.{need_in, IsLed};
 
 use crate::changes::Change;
 use crate::pages::{page, used};
@@ -50,4 +50,40 @@ pub fn need(alloc: Global, log: &[Logged], txn: TxnId, page: u32) -> Result<u128
 {
     let pending = all_pending(alloc, log)?;
     Ok(need_among(&pending, txn, page))
+}
+
+// The transaction of the last of these changes.
+fn last_txn(pending: &[Change]) -> Option<TxnId>
+    ensures { MatchOption result (pending.now ≡ []) (λ txn. IsLed txn.0 (reverse pending.now)) }
+{
+    let last = pending.last()?;
+    Some(last.txn)
+}
+
+// Whether the undo of all transactions needs no more than this on a page, where these changes are all that is pending,
+// the oldest first.
+fn needs_fit(mut left: Vec<Change>, page: u32, mut room: u128) -> bool
+    ensures { IsTrue result ↔ ((n : ℕ) → sum_below (need_in (reverse left.items) page) n ≤ room) }
+{
+    while let Some(txn) = last_txn(&left) {
+        let need = need_among(&left, txn, page);
+        if need > room {
+            return false;
+        }
+        room -= need;
+        remove_of(&mut left, txn);
+    }
+    true
+}
+
+/// Whether a page has room for what it holds and for what all transactions' undo needs there.
+pub(crate) fn fits(alloc: Global, log: &[Logged], number: u32) -> Result<bool, NoMemory>
+    ensures { IfOk result (λ fits. IsTrue fits ↔ ((n : ℕ) → used_by (page_of (acts_of log.now) number) + sum_below (λ txn. need_of (acts_of log.now) txn number) n ≤ CAPACITY)) }
+{
+    let used = used(&page(alloc, log, number)?);
+    let pending = all_pending(alloc, log)?;
+    match (CAPACITY as u128).checked_sub(used) {
+        Some(room) => Ok(needs_fit(pending, number, room)),
+        None => Ok(false),
+    }
 }
