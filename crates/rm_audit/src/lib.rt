@@ -9,11 +9,14 @@ mod changes;
 mod needs;
 mod pages;
 mod pending;
+mod rules;
 mod slots;
 mod transactions;
+mod verdicts;
 
 pub use changes::Change;
 pub use needs::need;
 pub use pages::{entry, page, version};
 pub use pending::{all_pending, pending_changes};
 pub use transactions::{has_record, is_finished};
+pub use verdicts::{Illegal, Verdict};

@@ -1,8 +1,9 @@
 //! The changes that may still be undone.
 
-ghost use Rattle.std.specs.Prelude.{◌≡◌, List, [], ◌∷◌, ◌++◌, length, reverse, IfOk, OnOk};
+ghost use Rattle.std.specs.Prelude.{◌≡◌, List, [], ◌∷◌, ◌++◌, length, reverse, IfOk, OnOk, MatchOption};
 ghost use Rattle.rm_history.specs.Acts.{Change as Changes, History, act_of, acts_of};
 ghost use Rattle.rm_history.specs.Pending.{without_newest, without, all_pending as all_pending_of, pending_of};
+ghost use Rattle.rm_history.specs.Rules.{IsLast};
 ghost use Rattle.rm_audit.specs.Parts.{of_txn, IsNewestOf};
 
 use crate::changes::{Change, change_of};
@@ -92,4 +93,12 @@ pub fn pending_changes(alloc: Global, log: &[Logged], txn: TxnId) -> Result<Vec<
     let mut pending = all_pending(alloc, log)?;
     keep_of(&mut pending, txn);
     Ok(pending)
+}
+
+/// A transaction's last pending change, if it has one.
+pub(crate) fn last_pending(alloc: Global, log: &[Logged], txn: TxnId) -> Result<Option<Change>, NoMemory>
+    ensures { IfOk result (λ found. MatchOption found (pending_of (acts_of log.now) txn.0 ≡ []) (IsLast (acts_of log.now) txn.0)) }
+{
+    let mut pending = pending_changes(alloc, log, txn)?;
+    Ok(pending.pop())
 }
