@@ -1,9 +1,11 @@
 -- What of a record, and of what is pending, the audit looks at.
 use Rattle.std.specs.Prelude.{◌≡◌, ℕ, ◌<◌, ◌==◌, if◌then◌else◌, List, [], ◌∷◌, length, reverse, Option, Some, None}
 use Rattle.std.specs.List.{remove}
+use Rattle.rm_types.specs.declared.places.Place.{Place}
 use Rattle.rm_history.specs.Acts.{Act, Change, changes, undoes, enters, commits, ends, lists}
 use Rattle.rm_history.specs.Pending.{without_newest}
 use Rattle.rm_history.specs.Needs.{on_page, need_for}
+use Rattle.rm_history.specs.Rules.{IsIn}
 
 -- the change that a record makes, if it makes one forward
 abbrev pub change_in : Act → Option Change
@@ -32,3 +34,7 @@ need_in pending page txn = need_for (on_page page (of_txn txn pending))
 abbrev pub IsLed : ℕ → List Change → Type 0
 IsLed txn [] = ⊥
 IsLed txn (newest ∷ before) = newest.txn ≡ txn
+
+-- one of the places has the number
+abbrev pub IsNamed : List Place → ℕ → Type 0
+IsNamed places number = (place : Place) × IsIn places place × (place.number ≡ number)

@@ -6,6 +6,7 @@
 #![tactic(auto)]
 
 mod changes;
+mod listings;
 mod needs;
 mod pages;
 mod pending;

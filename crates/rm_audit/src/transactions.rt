@@ -7,8 +7,8 @@ ghost use Rattle.rm_history.specs.Pending.{IsFinished, HasRecord, HasChange};
 use rm_record::{LogRecord, Logged};
 use rm_types::{Rid, TxnId};
 
-// The transaction that a record is of, if it is of one.
-fn txn_of(logged: &Logged) -> Option<TxnId>
+/// The transaction that a record is of, if it is of one.
+pub(crate) fn txn_of(logged: &Logged) -> Option<TxnId>
     ensures some { IfSome result (λ txn. (before : History) → HasRecord (act_of logged.now ∷ before) txn.0) }
     ensures only { (before : History) (txn : ℕ) → HasRecord (act_of logged.now ∷ before) txn → (result ≡ Some (record { 0 = txn })) ⊎ HasRecord before txn }
 {
