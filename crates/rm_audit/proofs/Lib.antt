@@ -1,6 +1,9 @@
+pub mod Breaking
+pub mod Following
 pub mod Fronts
 pub mod Kept
 pub mod Newest
 pub mod Pendings
 pub mod Places
+pub mod Room
 pub mod Sums
