@@ -9,11 +9,8 @@ use Rattle.rm_history.specs.Pending.{pending_of}
 use Rattle.rm_history.specs.Needs.{on_page}
 use Rattle.rm_history.specs.Rules.{MayCome, MayChange, MayUndo, MayEnter, IsPendingOn, EntriesFollow}
 use Rattle.rm_audit.specs.Parts.{FollowsOn, EachFollows}
+use Rattle.rm_audit.proofs.OnPage.{some_change}
 use Rattle.rm_audit.proofs.Room.{change_elsewhere, undo_elsewhere, not_set}
-
--- a list with a first is not empty
-some_change : (first : Change) (rest : List Change) → first ∷ rest ≡ [] → ⊥
-some_change first rest is = cc
 
 -- the first on the page
 first_on : (page : ℕ) (first : Change) (rest : List Change) → first.rid.page ≡ page → on_page page (first ∷ rest) ≡ [] → ⊥

@@ -3,6 +3,7 @@ pub mod Following
 pub mod Fronts
 pub mod Kept
 pub mod Newest
+pub mod OnPage
 pub mod Pendings
 pub mod Places
 pub mod Room

@@ -5,7 +5,9 @@
 //! (docs/DEFINITIONS.md). Nothing is kept from one answer to the next.
 #![tactic(auto)]
 
+mod audits;
 mod changes;
+mod entries;
 mod listings;
 mod needs;
 mod pages;
