@@ -18,7 +18,7 @@ acts_more log i newest inside is =
 
 -- ---- what a front has, the log has
 
-acts_onto-append : (history : History) (xs ys : List Logged) → acts_onto history (xs ++ ys) ≡ acts_onto (acts_onto history xs) ys
+pub acts_onto-append : (history : History) (xs ys : List Logged) → acts_onto history (xs ++ ys) ≡ acts_onto (acts_onto history xs) ys
 acts_onto-append history [] ys = refl
 acts_onto-append history (oldest ∷ xs) ys = acts_onto-append (act_of oldest ∷ history) xs ys
 

@@ -1,6 +1,8 @@
 pub mod Breaking
+pub mod FirstIllegal
 pub mod Following
 pub mod Fronts
+pub mod Judging
 pub mod Kept
 pub mod Newest
 pub mod OnPage

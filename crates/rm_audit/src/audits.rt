@@ -90,3 +90,40 @@ fn has_followed(alloc: Global, before: &[Logged], log: &[Logged], last: &Logged)
         _ => Ok(true),
     }
 }
+
+// What the last record of a log breaks behind those before it, which make a legal log.
+fn judge(alloc: Global, before: &[Logged], log: &[Logged], last: &Logged) -> Result<Option<Illegal>, NoMemory>
+    requires behind { acts_of log.now ≡ act_of last.now ∷ acts_of before.now }
+    requires legal { IsLegal (acts_of before.now) }
+    ensures { IfOk result (IsFound (IsLegal (act_of last.now ∷ acts_of before.now)) (acts_of before.now) (act_of last.now)) }
+{
+    if !is_above(before, last.lsn) {
+        return Ok(Some(Illegal::NotAbove));
+    }
+    if let Some(why) = check_kind(alloc, before, last)? {
+        return Ok(Some(why));
+    }
+    if !has_room(alloc, log, last)? {
+        return Ok(Some(Illegal::NoRoom));
+    }
+    if !has_followed(alloc, before, log, last)? {
+        return Ok(Some(Illegal::EntryBehind));
+    }
+    Ok(None)
+}
+
+/// Whether a log is legal, and else the LSN of the first record with which it is not, and a condition that the record
+/// breaks: the first in the order in which [`Illegal`] lists them.
+pub fn audit(alloc: Global, log: &[Logged]) -> Result<Verdict, NoMemory>
+    ensures legal { IfOk result (λ verdict. (verdict ≡ Verdict.Legal) ↔ IsLegal (acts_of log.now)) }
+    ensures illegal { (lsn : Lsns) (why : Illegals) → result ≡ Ok (Verdict.Illegal lsn why) → IsFirstIllegal log.now lsn why }
+{
+    for at in 0..log.len() {
+        let record = &log[at];
+        if let Some(why) = judge(alloc, &log[..at], &log[..at + 1], record)? {
+            let lsn = record.lsn;
+            return Ok(Verdict::Illegal { lsn, why });
+        }
+    }
+    Ok(Verdict::Legal)
+}

@@ -17,6 +17,7 @@ mod slots;
 mod transactions;
 mod verdicts;
 
+pub use audits::audit;
 pub use changes::Change;
 pub use needs::need;
 pub use pages::{entry, page, version};
