@@ -112,8 +112,8 @@ fn judge(alloc: Global, before: &[Logged], log: &[Logged], last: &Logged) -> Res
     Ok(None)
 }
 
-/// Whether a log is legal, and else the LSN of the first record with which it is not, and a condition that the record
-/// breaks: the first in the order in which [`Illegal`] lists them.
+/// Whether a log is legal, and else the LSN of the first record with which it is not, and a condition that this record
+/// breaks.
 pub fn audit(alloc: Global, log: &[Logged]) -> Result<Verdict, NoMemory>
     ensures legal { IfOk result (λ verdict. (verdict ≡ Verdict.Legal) ↔ IsLegal (acts_of log.now)) }
     ensures illegal { (lsn : Lsns) (why : Illegals) → result ≡ Ok (Verdict.Illegal lsn why) → IsFirstIllegal log.now lsn why }
