@@ -1,0 +1,102 @@
+-- What an audit looks at behind a record tells whether there is room on all pages, and whether the inventory follows.
+use Rattle.std.proofs.Common.{◌≡◌, ℕ, zero, suc, ◌+◌, ◌-◌, ◌<◌, Bool, true, false, IsTrue, ◌↔◌, MatchBool, List, [], ◌∷◌, Option, Some, None, length, take, get_or, refl, sym, ap, subst, ◌∙◌, inl, arith}
+use Rattle.std.proofs.lemmas.List.{take_all}
+use Rattle.std.proofs.lemmas.Option.{same_Some}
+use Rattle.rm_types.specs.declared.numbers.TxnId.{TxnId}
+use Rattle.rm_record.specs.declared.records.LogRecord.{LogRecord}
+use Rattle.rm_record.specs.declared.records.LogRecord.TheVariants.{Insert, Delete, Update, Compensate, Inventory, Commit, End, Checkpoint}
+use Rattle.rm_record.specs.declared.records.Logged.{Logged}
+use Rattle.rm_history.specs.Acts.{Act, History, commits, act_at, act_of, acts_of, lsn_of, newest_lsn}
+use Rattle.rm_history.specs.Pending.{pending_of}
+use Rattle.rm_history.specs.Needs.{need_of, sum_below, Fits}
+use Rattle.rm_history.specs.Rules.{MayCome, EntriesFollow, IsLegal}
+use Rattle.rm_audit.specs.Parts.{page_in, FitsOn, EachFollows}
+use Rattle.rm_audit.proofs.Following.{IsCommitOf, keeps_entries}
+use Rattle.rm_audit.proofs.Fronts.{acts_more}
+use Rattle.rm_audit.proofs.Room.{keeps_room}
+
+-- the LSN of what a record does
+lsn_of-act_at : (lsn : ℕ) (what : LogRecord) → lsn_of (act_at lsn what) ≡ lsn
+lsn_of-act_at lsn (Insert txn under rid need row) = refl
+lsn_of-act_at lsn (Delete txn under rid need old) = refl
+lsn_of-act_at lsn (Update txn under rid need old new) = refl
+lsn_of-act_at lsn (Compensate txn undone next rid back) = refl
+lsn_of-act_at lsn (Inventory txn page category) = refl
+lsn_of-act_at lsn (Commit txn) = refl
+lsn_of-act_at lsn (End txn) = refl
+lsn_of-act_at lsn (Checkpoint next losers pages blocks) = refl
+
+-- the newest LSN is the last record's
+pub newest_is : (log : List Logged) (last : Logged) → 0 < length log → last ≡ get_or log (length log - 1) last → newest_lsn (acts_of log) ≡ last.lsn.0
+newest_is log last some is =
+    let all : take (length log - 1 + 1) log ≡ log = take_all (length log - 1 + 1) log (omega arith) in
+    ap newest_lsn (ap acts_of (sym all) ∙ acts_more log (length log - 1) last (omega arith) is) ∙ lsn_of-act_at last.lsn.0 last.what
+
+-- behind no records there is room, and the inventory follows
+no_needs : (page n : ℕ) → sum_below (λ txn. need_of [] txn page) n ≡ 0
+no_needs page zero = refl
+no_needs page (suc n) = omega (arith, no_needs page n)
+
+pub legal_fits : (history : History) → IsLegal history → Fits history
+legal_fits [] legal = λ page n. omega (arith, no_needs page n)
+legal_fits (act ∷ before) legal = legal.1.fits
+
+pub legal_follows : (history : History) → IsLegal history → EntriesFollow history
+legal_follows [] legal = λ page. inl refl
+legal_follows (act ∷ before) legal = legal.2
+
+-- an LSN is above a log's, and above its history's
+pub above_is : (before : List Logged) (last : Logged) → newest_lsn (acts_of before) < last.lsn.0 → newest_lsn (acts_of before) < lsn_of (act_of last)
+above_is before last above = omega (arith, above, lsn_of-act_at last.lsn.0 last.what)
+
+pub not_above_is : (before : List Logged) (last : Logged) → (newest_lsn (acts_of before) < last.lsn.0 → ⊥) → newest_lsn (acts_of before) < lsn_of (act_of last) → ⊥
+not_above_is before last not above = not (omega (arith, above, lsn_of-act_at last.lsn.0 last.what))
+
+-- with all of its parts a record makes a legal history
+pub is_legal : (before : List Logged) (last : Logged) (history : History) → history ≡ act_of last ∷ acts_of before → IsLegal (acts_of before) → newest_lsn (acts_of before) < last.lsn.0 → MayCome (acts_of before) (act_of last)
+    → (MayCome (acts_of before) (act_of last) → Fits (acts_of before) → Fits history)
+    → (MayCome (acts_of before) (act_of last) → EntriesFollow (acts_of before) → EntriesFollow history)
+    → IsLegal (act_of last ∷ acts_of before)
+is_legal before last history is legal above may room follow = (
+  legal,
+  record { above = above_is before last above; may_come = may; fits = subst Fits is (room may (legal_fits (acts_of before) legal)) },
+  subst EntriesFollow is (follow may (legal_follows (acts_of before) legal)),
+)
+
+-- room on the page that a record sets is room on all
+pub room_with : (act : Act) (before history : History) (page : ℕ) (found : Bool) → history ≡ act ∷ before → page_in act ≡ Some page → (IsTrue found ↔ FitsOn history page)
+    → MatchBool found (MayCome before act → Fits before → Fits history) (Fits history → ⊥)
+room_with act before history page true is set on =
+    λ may fits. subst Fits (sym is) (keeps_room act before may fits (λ other also. subst (FitsOn (act ∷ before)) (same_Some page other (sym set ∙ also)) (subst (λ (h : History). FitsOn h page) is (on.0 refl))))
+room_with act before history page false is set on = λ fits. let yes : false ≡ true = on.1 (fits page) in cc
+
+pub room_without : (act : Act) (before history : History) → history ≡ act ∷ before → page_in act ≡ None → MayCome before act → Fits before → Fits history
+room_without act before history is none may fits =
+    subst Fits (sym is) (keeps_room act before may fits (λ page set. let both : None ≡ Some page = sym none ∙ set in cc))
+
+-- the inventory follows where no record is a commit, and where the pages of a commit follow
+pub followed_without : (act : Act) (before history : History) → history ≡ act ∷ before → ((txn : ℕ) → IsCommitOf act txn → ⊥) → MayCome before act → EntriesFollow before → EntriesFollow history
+followed_without act before history is other may follow =
+    subst EntriesFollow (sym is) (keeps_entries act before may follow (λ txn commit. absurd (other txn commit)))
+
+pub followed_with : (last : Logged) (txn : TxnId) (before history : History) (found : Bool) → last.what ≡ Commit txn → history ≡ act_of last ∷ before
+    → MatchBool found (EachFollows history (pending_of before txn.0)) (EntriesFollow history → ⊥)
+    → MatchBool found (MayCome before (act_of last) → EntriesFollow before → EntriesFollow history) (EntriesFollow history → ⊥)
+followed_with last txn before history true what is each =
+    let act : act_of last ≡ commits (record { lsn = last.lsn.0; txn = txn.0 }) = ap (act_at last.lsn.0) what in
+    λ may follow. subst EntriesFollow (sym is) (keeps_entries (act_of last) before may follow
+    (λ other commit.
+    let same : txn.0 ≡ other = subst (λ (a : Act). IsCommitOf a other) act commit in
+    subst (λ (t : ℕ). EachFollows (act_of last ∷ before) (pending_of before t)) same (subst (λ (h : History). EachFollows h (pending_of before txn.0)) is each)))
+followed_with last txn before history false what is each = each
+
+-- what is no commit record does no commit
+pub no_commit : (lsn : ℕ) (what : LogRecord) → ((txn : TxnId) → what ≡ Commit txn → ⊥) → (txn : ℕ) → IsCommitOf (act_at lsn what) txn → ⊥
+no_commit lsn (Insert by under rid need row) other txn is = is
+no_commit lsn (Delete by under rid need old) other txn is = is
+no_commit lsn (Update by under rid need old new) other txn is = is
+no_commit lsn (Compensate by undone next rid back) other txn is = is
+no_commit lsn (Inventory by page category) other txn is = is
+no_commit lsn (Commit by) other txn is = other by refl
+no_commit lsn (End by) other txn is = is
+no_commit lsn (Checkpoint next losers pages blocks) other txn is = is

@@ -1,0 +1,12 @@
+pub mod Breaking
+pub mod FirstIllegal
+pub mod Following
+pub mod Fronts
+pub mod Judging
+pub mod Kept
+pub mod Newest
+pub mod OnPage
+pub mod Pendings
+pub mod Places
+pub mod Room
+pub mod Sums

@@ -1,0 +1,131 @@
+//! What a log says of a page.
+
+ghost use Rattle.std.specs.Prelude.{◌≡◌, ℕ, ◌∷◌, IfOk, OnOk};
+ghost use Rattle.rm_model.specs.Pages.{used as used_by, set_slot};
+ghost use Rattle.rm_history.specs.Acts.{History, act_of, acts_of};
+ghost use Rattle.rm_history.specs.Contents.{page_of, version_of, category_of, entry_of};
+
+use crate::slots::{bytes_in, copy_of, set};
+use rm_history::CATEGORY_BYTES;
+use rm_record::{LogRecord, Logged};
+use rm_types::{Lsn, MAX_CATEGORY, NoMemory, Rid, SLOT_ENTRY, Slot};
+use std::alloc::Global;
+
+// Brings the slots of a page behind one record more.
+fn page_step(slots: &mut Vec<Slot>, logged: &Logged, page: u32) -> Result<(), NoMemory>
+    ensures { (before : History) → slots.old.items ≡ page_of before page → OnOk result (slots.new.items ≡ page_of (act_of logged.now ∷ before) page) }
+{
+    match &logged.what {
+        LogRecord::Insert { rid, row, .. } if rid.page == page => {
+            set(slots, rid.slot, Slot::Row(row.try_clone()?))
+        }
+        LogRecord::Delete { rid, .. } if rid.page == page => set(slots, rid.slot, Slot::Vacant),
+        LogRecord::Update { rid, new, .. } if rid.page == page => {
+            set(slots, rid.slot, Slot::Row(new.try_clone()?))
+        }
+        LogRecord::Compensate { rid, back, .. } if rid.page == page => {
+            set(slots, rid.slot, copy_of(back)?)
+        }
+        _ => Ok(()),
+    }
+}
+
+/// The slots of a page: each record that names a slot of it sets that slot.
+#[tactic(auto, using(crate::proofs::Fronts::acts_more))]
+pub fn page(alloc: Global, log: &[Logged], number: u32) -> Result<Vec<Slot>, NoMemory>
+    ensures { IfOk result (λ slots. slots.items ≡ page_of (acts_of log.now) number) }
+{
+    let mut slots = Vec::new(alloc);
+    for logged in log {
+        page_step(&mut slots, logged, number)?;
+    }
+    Ok(slots)
+}
+
+// The version of a page behind one record more.
+fn version_step(version: Lsn, logged: &Logged, page: u32) -> Lsn
+    ensures { (before : History) → version.0 ≡ version_of before page → result.0 ≡ version_of (act_of logged.now ∷ before) page }
+{
+    match &logged.what {
+        LogRecord::Insert { rid, .. }
+        | LogRecord::Delete { rid, .. }
+        | LogRecord::Update { rid, .. }
+        | LogRecord::Compensate { rid, .. }
+            if rid.page == page => { logged.lsn }
+        _ => version,
+    }
+}
+
+/// The version of a page: the LSN of the last record that set a slot of it, 0 for none.
+#[tactic(auto, using(crate::proofs::Fronts::acts_more))]
+pub fn version(log: &[Logged], page: u32) -> Lsn
+    ensures { result.0 ≡ version_of (acts_of log.now) page }
+{
+    let mut version = Lsn(0);
+    for logged in log {
+        version = version_step(version, logged, page);
+    }
+    version
+}
+
+// The entry of a page behind one record more.
+fn entry_step(entry: u8, logged: &Logged, number: u32) -> u8
+    ensures { (before : History) → entry ≡ entry_of before number → result ≡ entry_of (act_of logged.now ∷ before) number }
+{
+    match &logged.what {
+        LogRecord::Inventory { page, category, .. } if *page == number => *category,
+        _ => entry,
+    }
+}
+
+/// The category that the inventory has for a page, 0 before the first.
+#[tactic(auto, using(crate::proofs::Fronts::acts_more))]
+pub fn entry(log: &[Logged], page: u32) -> u8
+    ensures { result ≡ entry_of (acts_of log.now) page }
+{
+    let mut entry = 0;
+    for logged in log {
+        entry = entry_step(entry, logged, page);
+    }
+    entry
+}
+
+/// How many bytes a page with these slots uses. No type bounds how many slots there are, so the count is wide.
+pub(crate) fn used(slots: &[Slot]) -> u128
+    ensures { result ≡ used_by slots.now }
+{
+    let mut used = 0;
+    for slot in slots {
+        used += SLOT_ENTRY as u128 + bytes_in(slot) as u128;
+    }
+    used
+}
+
+/// How full a page with these slots is, in four steps.
+pub(crate) fn category(slots: &[Slot]) -> u8
+    ensures { result ≡ category_of slots.now }
+{
+    let steps = used(slots) / CATEGORY_BYTES as u128;
+    steps.min(MAX_CATEGORY as u128) as u8
+}
+
+/// The category of a page.
+pub(crate) fn category_now(alloc: Global, log: &[Logged], number: u32) -> Result<u8, NoMemory>
+    ensures { IfOk result (λ category. category ≡ category_of (page_of (acts_of log.now) number)) }
+{
+    Ok(category(&page(alloc, log, number)?))
+}
+
+/// The category that a page has with this back in a slot.
+pub(crate) fn category_with(
+    alloc: Global,
+    log: &[Logged],
+    rid: Rid,
+    back: &Slot,
+) -> Result<u8, NoMemory>
+    ensures { IfOk result (λ category. category ≡ category_of (set_slot (page_of (acts_of log.now) rid.page) rid.slot back.now)) }
+{
+    let mut slots = page(alloc, log, rid.page)?;
+    set(&mut slots, rid.slot, copy_of(back)?)?;
+    Ok(category(&slots))
+}
