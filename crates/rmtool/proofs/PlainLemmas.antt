@@ -1,5 +1,5 @@
 -- What is due at each exit of the command `plain`.
-use Rattle.std.proofs.Common.{◌≡◌, ℕ, suc, ◌≤◌, Bool, true, false, List, [], ◌∷◌, ◌++◌, length, take, drop, Option, Some, None, refl, sym, ap, ◌∙◌, subst, append_assoc, append-nil, length-append, inl, inr, ◌⊎◌, arith}
+use Rattle.std.proofs.Common.{◌≡◌, ℕ, suc, ◌≤◌, List, [], ◌∷◌, ◌++◌, length, take, drop, Option, Some, None, refl, sym, ap, ◌∙◌, subst, append_assoc, append-nil, length-append, inl, inr, arith}
 use Rattle.std.proofs.lemmas.Grind.{flat_map-append}
 use Rattle.std.proofs.lemmas.List.{take-append-drop, take_at}
 use Rattle.rm_types.specs.declared.lines.Line.{Line}
@@ -21,8 +21,7 @@ use Rattle.rmtool.specs.declared.statuses.Status.TheVariants as status
 use Rattle.rmtool.specs.Status.{status_of}
 use Rattle.rmtool.specs.Reading.{HasLeft, Reads}
 use Rattle.rmtool.specs.Running.{DidSome, DidAll, Broke}
-use Rattle.std.specs.Prelude.{MatchBool}
-use Rattle.rmtool.specs.Told.{is_sink, Answers, Owes}
+use Rattle.rmtool.specs.Told.{Owes}
 use Rattle.rmtool.specs.Plain.{Draws, IsDueFor, PlainDue}
 use Rattle.rmtool.specs.Complete.{IsDone}
 

@@ -1,5 +1,5 @@
 -- What the program prints for its words and its input, and why.
-use Rattle.std.specs.Prelude.{◌≡◌, ℕ, List, [], ◌++◌, take, Option, Some, ◌⊎◌}
+use Rattle.std.specs.Prelude.{◌≡◌, ℕ, List, [], ◌++◌, take, Option, ◌⊎◌}
 use Rattle.rm_types.specs.declared.lines.Line.{Line}
 use Rattle.rm_types.specs.declared.operations.Reply.{Reply}
 use Rattle.rm_model.specs.Session.{State, Run, fresh}
