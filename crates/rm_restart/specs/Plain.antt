@@ -1,4 +1,4 @@
--- Plain histories: those of inserts and commits alone. The program makes and reads no others yet.
+-- Plain histories: those of inserts and commits alone. The program makes and reads no other records yet.
 use Rattle.std.specs.Prelude.{◌≡◌, ℕ, List}
 use Rattle.std.specs.List.{AllByRecursion}
 use Rattle.rm_types.specs.declared.slots.Slot.TheVariants.{Vacant, Row}
@@ -19,5 +19,6 @@ IsPlain (commits f) = Unit {0}
 IsPlain (ends f) = ⊥
 IsPlain (lists l) = ⊥
 
+-- each record of the history is
 abbrev pub ArePlain : History → Type 0
 ArePlain history = AllByRecursion IsPlain history
