@@ -4,7 +4,7 @@ use Rattle.rm_types.specs.declared.numbers.Lsn.{Lsn}
 use Rattle.rm_types.specs.declared.places.Place.{Place}
 use Rattle.rm_model.specs.Pages.{set_slot}
 use Rattle.rm_record.specs.declared.records.Logged.{Logged}
-use Rattle.rm_history.specs.Acts.{Act, Change, Undo, Entry, Finish, Listing, History, changes, undoes, enters, commits, ends, lists, act_of, acts_of, lsn_of, newest_lsn}
+use Rattle.rm_history.specs.Acts.{Act, Change, Undo, Entry, Listing, History, changes, undoes, enters, commits, ends, lists, act_of, acts_of, lsn_of, newest_lsn}
 use Rattle.rm_history.specs.Contents.{slot_at, page_of, category_of, entry_of}
 use Rattle.rm_history.specs.Pending.{pending_of, last_of, IsFinished, HasRecord, HasChange}
 use Rattle.rm_history.specs.Needs.{need_of, Fits}
