@@ -75,7 +75,7 @@ keeps_entries (undoes u) before may follow committed page =
     elim (cases_eq u.rid.page page) [
       | inl same ↦ undo_follows u before page same may
       | inr other ↦ follows_as_before before (undoes u ∷ before) page refl (not_set u.rid.page page _ _ other)
-        (λ txn. undo_elsewhere page txn u before may.last may.is_last.0 may.is_last.1 (λ same. other (ap (λ (rid : Rid). rid.page) may.rid_is ∙ same))) (follow page)
+          (λ txn. undo_elsewhere page txn u before may.last may.is_last.0 may.is_last.1 (λ same. other (ap (λ (rid : Rid). rid.page) may.rid_is ∙ same))) (follow page)
     ]
 keeps_entries (enters e) before may follow committed page =
     elim (cases_eq e.page page) [
@@ -86,16 +86,16 @@ keeps_entries (commits f) before may follow committed page =
     elim (follow page) [
       | inl right ↦ inl right
       | inr some ↦ elim (cases_eq f.txn some.0) [
-          | inl same ↦ follows_among (commits f ∷ before) (pending_of before some.0) page (committed some.0 same) some.1
-          | inr other ↦ inr (some.0, others_follow page some.0 f.txn before other some.1)
-        ]
+        | inl same ↦ follows_among (commits f ∷ before) (pending_of before some.0) page (committed some.0 same) some.1
+        | inr other ↦ inr (some.0, others_follow page some.0 f.txn before other some.1)
+      ]
     ]
 keeps_entries (ends f) before may follow committed page =
     elim (follow page) [
       | inl right ↦ inl right
       | inr some ↦ elim (cases_eq f.txn some.0) [
-          | inl same ↦ absurd (some.1 (ap (on_page page) (ap (pending_of before) (sym same) ∙ may.none)))
-          | inr other ↦ inr (some.0, others_follow page some.0 f.txn before other some.1)
-        ]
+        | inl same ↦ absurd (some.1 (ap (on_page page) (ap (pending_of before) (sym same) ∙ may.none)))
+        | inr other ↦ inr (some.0, others_follow page some.0 f.txn before other some.1)
+      ]
     ]
 keeps_entries (lists l) before may follow committed page = follow page

@@ -57,10 +57,11 @@ pub is_legal : (before : List Logged) (last : Logged) (history : History) → hi
     → (MayCome (acts_of before) (act_of last) → Fits (acts_of before) → Fits history)
     → (MayCome (acts_of before) (act_of last) → EntriesFollow (acts_of before) → EntriesFollow history)
     → IsLegal (act_of last ∷ acts_of before)
-is_legal before last history is legal above may room follow =
-    (legal,
-    record { above = above_is before last above; may_come = may; fits = subst Fits is (room may (legal_fits (acts_of before) legal)) },
-    subst EntriesFollow is (follow may (legal_follows (acts_of before) legal)))
+is_legal before last history is legal above may room follow = (
+  legal,
+  record { above = above_is before last above; may_come = may; fits = subst Fits is (room may (legal_fits (acts_of before) legal)) },
+  subst EntriesFollow is (follow may (legal_follows (acts_of before) legal)),
+)
 
 -- room on the page that a record sets is room on all
 pub room_with : (act : Act) (before history : History) (page : ℕ) (found : Bool) → history ≡ act ∷ before → page_in act ≡ Some page → (IsTrue found ↔ FitsOn history page)
@@ -85,8 +86,8 @@ followed_with last txn before history true what is each =
     let act : act_of last ≡ commits (record { lsn = last.lsn.0; txn = txn.0 }) = ap (act_at last.lsn.0) what in
     λ may follow. subst EntriesFollow (sym is) (keeps_entries (act_of last) before may follow
     (λ other commit.
-      let same : txn.0 ≡ other = subst (λ (a : Act). IsCommitOf a other) act commit in
-      subst (λ (t : ℕ). EachFollows (act_of last ∷ before) (pending_of before t)) same (subst (λ (h : History). EachFollows h (pending_of before txn.0)) is each)))
+    let same : txn.0 ≡ other = subst (λ (a : Act). IsCommitOf a other) act commit in
+    subst (λ (t : ℕ). EachFollows (act_of last ∷ before) (pending_of before t)) same (subst (λ (h : History). EachFollows h (pending_of before txn.0)) is each)))
 followed_with last txn before history false what is each = each
 
 -- what is no commit record does no commit

@@ -19,11 +19,11 @@ none_of page txn (newest ∷ before) none =
     elim (cases_eq newest.rid.page page) [
       | inl same ↦ absurd (some_change newest (on_page page before) (rw (eq-eqb newest.rid.page page same) at none))
       | inr other ↦
-        let less : on_page page before ≡ [] = rw (ne_eqb newest.rid.page page other) at none in
-        elim (cases_eq newest.txn txn) [
-          | inl of_it ↦ rw (eq-eqb newest.txn txn of_it, ne_eqb newest.rid.page page other) (none_of page txn before less)
-          | inr apart ↦ rw (ne_eqb newest.txn txn apart) (none_of page txn before less)
-        ]
+          let less : on_page page before ≡ [] = rw (ne_eqb newest.rid.page page other) at none in
+          elim (cases_eq newest.txn txn) [
+            | inl of_it ↦ rw (eq-eqb newest.txn txn of_it, ne_eqb newest.rid.page page other) (none_of page txn before less)
+            | inr apart ↦ rw (ne_eqb newest.txn txn apart) (none_of page txn before less)
+          ]
     ]
 
 pub nothing_on : (history : History) (pending : List Change) (page : ℕ) → pending ≡ all_pending history → on_page page pending ≡ [] → IsPendingOn history page → ⊥

@@ -33,8 +33,8 @@ pub undo_elsewhere : (page txn : ℕ) (u : Undo) (before : History) (last : Chan
 undo_elsewhere page txn u before last rest is other =
     elim (cases_eq u.txn txn) [
       | inl same ↦
-        let its : pending_of before txn ≡ last ∷ rest = ap (pending_of before) (sym same) ∙ is in
-        rw (eq-eqb u.txn txn same, its, ne_eqb last.rid.page page other)
+          let its : pending_of before txn ≡ last ∷ rest = ap (pending_of before) (sym same) ∙ is in
+          rw (eq-eqb u.txn txn same, its, ne_eqb last.rid.page page other)
       | inr apart ↦ rw (ne_eqb u.txn txn apart)
     ]
 
@@ -71,7 +71,7 @@ keeps_room (undoes u) before may fits set page =
     elim (cases_eq u.rid.page page) [
       | inl same ↦ set page (ap Some same)
       | inr other ↦ fits_as_before before (undoes u ∷ before) page (not_set u.rid.page page _ _ other)
-        (λ txn. undo_elsewhere page txn u before may.last may.is_last.0 may.is_last.1 (λ same. other (ap (λ rid. rid.page) may.rid_is ∙ same))) (fits page)
+          (λ txn. undo_elsewhere page txn u before may.last may.is_last.0 may.is_last.1 (λ same. other (ap (λ rid. rid.page) may.rid_is ∙ same))) (fits page)
     ]
 keeps_room (enters e) before may fits set page = fits page
 keeps_room (commits f) before may fits set page = fits_with_less before (commits f ∷ before) page refl (λ txn. finish_needs page txn f.txn (pending_of before txn)) (fits page)

@@ -27,14 +27,14 @@ sum_below-less f g one zero inside others none = absurd (omega arith)
 sum_below-less f g one (suc n) inside others none =
     elim (cases_eq one n) [
       | inl same ↦
-        let rest : sum_below f n ≡ sum_below g n = sum_below-same f g n (λ at below. others at (λ is. absurd (omega (arith, is, below, same)))) in
-        let here : f one ≡ f n = ap f same in
-        let gone : g n ≡ 0 = ap g (sym same) ∙ none in
-        omega arith
+          let rest : sum_below f n ≡ sum_below g n = sum_below-same f g n (λ at below. others at (λ is. absurd (omega (arith, is, below, same)))) in
+          let here : f one ≡ f n = ap f same in
+          let gone : g n ≡ 0 = ap g (sym same) ∙ none in
+          omega arith
       | inr other ↦
-        let more : sum_below f n ≡ f one + sum_below g n = sum_below-less f g one n (omega arith) others none in
-        let there : f n ≡ g n = others n (λ is. other (sym is)) in
-        omega arith
+          let more : sum_below f n ≡ f one + sum_below g n = sum_below-less f g one n (omega arith) others none in
+          let there : f n ≡ g n = others n (λ is. other (sym is)) in
+          omega arith
     ]
 
 -- ---- needs

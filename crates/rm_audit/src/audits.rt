@@ -51,7 +51,12 @@ fn check_kind(alloc: Global, log: &[Logged], logged: &Logged) -> Result<Option<I
         } => check_entry(alloc, log, *txn, *page, *category),
         LogRecord::Commit { txn } => Ok(check_commit(log, *txn)),
         LogRecord::End { txn } => check_end(alloc, log, *txn),
-        LogRecord::Checkpoint { next, losers, .. } => check_listing(alloc, log, *next, losers.as_slice()),
+        LogRecord::Checkpoint { next, losers, .. } => check_listing(
+            alloc,
+            log,
+            *next,
+            losers.as_slice(),
+        ),
         _ => Ok(None),
     }
 }
@@ -81,7 +86,12 @@ fn has_room(alloc: Global, log: &[Logged], last: &Logged) -> Result<bool, NoMemo
 }
 
 // Whether the inventory follows behind the last record of a log, where it may come and it followed before.
-fn has_followed(alloc: Global, before: &[Logged], log: &[Logged], last: &Logged) -> Result<bool, NoMemory>
+fn has_followed(
+    alloc: Global,
+    before: &[Logged],
+    log: &[Logged],
+    last: &Logged,
+) -> Result<bool, NoMemory>
     ensures { acts_of log.now ≡ act_of last.now ∷ acts_of before.now
         → IfOk result (λ follows. MatchBool follows (MayCome (acts_of before.now) (act_of last.now) → EntriesFollow (acts_of before.now) → EntriesFollow (acts_of log.now)) (EntriesFollow (acts_of log.now) → ⊥)) }
 {
@@ -92,7 +102,12 @@ fn has_followed(alloc: Global, before: &[Logged], log: &[Logged], last: &Logged)
 }
 
 // What the last record of a log breaks behind those before it, which make a legal log.
-fn judge(alloc: Global, before: &[Logged], log: &[Logged], last: &Logged) -> Result<Option<Illegal>, NoMemory>
+fn judge(
+    alloc: Global,
+    before: &[Logged],
+    log: &[Logged],
+    last: &Logged,
+) -> Result<Option<Illegal>, NoMemory>
     requires behind { acts_of log.now ≡ act_of last.now ∷ acts_of before.now }
     requires legal { IsLegal (acts_of before.now) }
     ensures { IfOk result (IsFound (IsLegal (act_of last.now ∷ acts_of before.now)) (acts_of before.now) (act_of last.now)) }

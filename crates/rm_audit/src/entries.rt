@@ -72,7 +72,12 @@ fn all_follow(alloc: Global, log: &[Logged], pending: &[Change]) -> Result<bool,
 
 /// Whether each page follows on which a transaction had a pending change: `before` is the log without its commit, and
 /// `log` with it.
-pub(crate) fn each_follows(alloc: Global, before: &[Logged], log: &[Logged], txn: TxnId) -> Result<bool, NoMemory>
+pub(crate) fn each_follows(
+    alloc: Global,
+    before: &[Logged],
+    log: &[Logged],
+    txn: TxnId,
+) -> Result<bool, NoMemory>
     ensures { IfOk result (λ follow. MatchBool follow (EachFollows (acts_of log.now) (pending_of (acts_of before.now) txn.0)) (EntriesFollow (acts_of log.now) → ⊥)) }
 {
     let pending = pending_changes(alloc, before, txn)?;

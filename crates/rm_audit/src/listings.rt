@@ -102,7 +102,12 @@ fn misplaced(alloc: Global, log: &[Logged], losers: &[Place]) -> Result<Option<P
 }
 
 /// What a checkpoint breaks behind a log.
-pub(crate) fn check_listing(alloc: Global, log: &[Logged], next: u64, losers: &[Place]) -> Result<Option<Illegal>, NoMemory>
+pub(crate) fn check_listing(
+    alloc: Global,
+    log: &[Logged],
+    next: u64,
+    losers: &[Place],
+) -> Result<Option<Illegal>, NoMemory>
     ensures { (lsn : ℕ) (pages blocks : List Places) → IfOk result (IsFound (MayList (acts_of log.now) (record { lsn = lsn; next = next; losers = losers.now; pages = pages; blocks = blocks })) (acts_of log.now)
         (lists (record { lsn = lsn; next = next; losers = losers.now; pages = pages; blocks = blocks }))) }
 {

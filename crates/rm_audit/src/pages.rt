@@ -51,10 +51,7 @@ fn version_step(version: Lsn, logged: &Logged, page: u32) -> Lsn
         | LogRecord::Delete { rid, .. }
         | LogRecord::Update { rid, .. }
         | LogRecord::Compensate { rid, .. }
-            if rid.page == page =>
-        {
-            logged.lsn
-        }
+            if rid.page == page => { logged.lsn }
         _ => version,
     }
 }
@@ -120,7 +117,12 @@ pub(crate) fn category_now(alloc: Global, log: &[Logged], number: u32) -> Result
 }
 
 /// The category that a page has with this back in a slot.
-pub(crate) fn category_with(alloc: Global, log: &[Logged], rid: Rid, back: &Slot) -> Result<u8, NoMemory>
+pub(crate) fn category_with(
+    alloc: Global,
+    log: &[Logged],
+    rid: Rid,
+    back: &Slot,
+) -> Result<u8, NoMemory>
     ensures { IfOk result (λ category. category ≡ category_of (set_slot (page_of (acts_of log.now) rid.page) rid.slot back.now)) }
 {
     let mut slots = page(alloc, log, rid.page)?;

@@ -96,7 +96,11 @@ pub fn pending_changes(alloc: Global, log: &[Logged], txn: TxnId) -> Result<Vec<
 }
 
 /// A transaction's last pending change, if it has one.
-pub(crate) fn last_pending(alloc: Global, log: &[Logged], txn: TxnId) -> Result<Option<Change>, NoMemory>
+pub(crate) fn last_pending(
+    alloc: Global,
+    log: &[Logged],
+    txn: TxnId,
+) -> Result<Option<Change>, NoMemory>
     ensures { IfOk result (λ found. MatchOption found (pending_of (acts_of log.now) txn.0 ≡ []) (IsLast (acts_of log.now) txn.0)) }
 {
     let mut pending = pending_changes(alloc, log, txn)?;

@@ -45,7 +45,13 @@ fn with_changes(mut row: Option<Row>, changes: &[Change], rid: Rid) -> Result<Op
 }
 
 // The committed row at a row id behind one record more.
-fn row_step(alloc: Global, row: Option<Row>, before: &[Logged], logged: &Logged, rid: Rid) -> Result<Option<Row>, NoMemory>
+fn row_step(
+    alloc: Global,
+    row: Option<Row>,
+    before: &[Logged],
+    logged: &Logged,
+    rid: Rid,
+) -> Result<Option<Row>, NoMemory>
     ensures { row ≡ rows_of_log (acts_of before.now) rid → IfOk result (λ row. row ≡ rows_of_log (act_of logged.now ∷ acts_of before.now) rid) }
 {
     match &logged.what {

@@ -28,7 +28,11 @@ pub(crate) fn last_lsn(alloc: Global, log: &[Logged], txn: TxnId) -> Result<Lsn,
 }
 
 /// What a change breaks behind a log.
-pub(crate) fn check_change(alloc: Global, log: &[Logged], change: &Change) -> Result<Option<Illegal>, NoMemory>
+pub(crate) fn check_change(
+    alloc: Global,
+    log: &[Logged],
+    change: &Change,
+) -> Result<Option<Illegal>, NoMemory>
     ensures { IfOk result (IsFound (MayChange (acts_of log.now) change.now) (acts_of log.now) (changes change.now)) }
 {
     let txn = change.txn;
@@ -52,7 +56,15 @@ pub(crate) fn check_change(alloc: Global, log: &[Logged], change: &Change) -> Re
 }
 
 /// What a compensation breaks behind a log.
-pub(crate) fn check_undo(alloc: Global, log: &[Logged], txn: TxnId, undone: Lsn, next: Lsn, rid: Rid, back: &Slot) -> Result<Option<Illegal>, NoMemory>
+pub(crate) fn check_undo(
+    alloc: Global,
+    log: &[Logged],
+    txn: TxnId,
+    undone: Lsn,
+    next: Lsn,
+    rid: Rid,
+    back: &Slot,
+) -> Result<Option<Illegal>, NoMemory>
     ensures { (lsn : ℕ) → IfOk result (IsFound (MayUndo (acts_of log.now) (record { lsn = lsn; txn = txn.0; undone = undone.0; next = next.0; rid = rid; back = back.now })) (acts_of log.now)
         (undoes (record { lsn = lsn; txn = txn.0; undone = undone.0; next = next.0; rid = rid; back = back.now }))) }
 {
@@ -81,7 +93,13 @@ pub(crate) fn check_undo(alloc: Global, log: &[Logged], txn: TxnId, undone: Lsn,
 }
 
 /// What an inventory record breaks behind a log.
-pub(crate) fn check_entry(alloc: Global, log: &[Logged], txn: TxnId, number: u32, category: u8) -> Result<Option<Illegal>, NoMemory>
+pub(crate) fn check_entry(
+    alloc: Global,
+    log: &[Logged],
+    txn: TxnId,
+    number: u32,
+    category: u8,
+) -> Result<Option<Illegal>, NoMemory>
     ensures { (lsn : ℕ) → IfOk result (IsFound (MayEnter (acts_of log.now) (record { lsn = lsn; txn = txn.0; page = number; category = category })) (acts_of log.now)
         (enters (record { lsn = lsn; txn = txn.0; page = number; category = category }))) }
 {
@@ -118,7 +136,11 @@ pub(crate) fn check_commit(log: &[Logged], txn: TxnId) -> Option<Illegal>
 }
 
 /// What an end breaks behind a log.
-pub(crate) fn check_end(alloc: Global, log: &[Logged], txn: TxnId) -> Result<Option<Illegal>, NoMemory>
+pub(crate) fn check_end(
+    alloc: Global,
+    log: &[Logged],
+    txn: TxnId,
+) -> Result<Option<Illegal>, NoMemory>
     ensures { (lsn : ℕ) → IfOk result (IsFound (MayEnd (acts_of log.now) (record { lsn = lsn; txn = txn.0 })) (acts_of log.now) (ends (record { lsn = lsn; txn = txn.0 }))) }
 {
     if is_finished(log, txn) {

@@ -33,10 +33,7 @@ fn changer_of(logged: &Logged, place: Rid) -> Option<TxnId>
         LogRecord::Insert { txn, rid, .. }
         | LogRecord::Delete { txn, rid, .. }
         | LogRecord::Update { txn, rid, .. }
-            if *rid == place =>
-        {
-            Some(*txn)
-        }
+            if *rid == place => { Some(*txn) }
         _ => None,
     }
 }

@@ -54,8 +54,5 @@ pub enum Illegal {
 pub enum Verdict {
     Legal,
     /// The log up to the record with this LSN is legal, and with it it is not.
-    Illegal {
-        lsn: Lsn,
-        why: Illegal,
-    },
+    Illegal { lsn: Lsn, why: Illegal },
 }

@@ -25,18 +25,19 @@ judge-requires-clause-behind c = acts_more c.args.log.now c.loop-at.at c.index-l
 
 pub returns-in-Some-clause-legal : goal.returns-in-Some-clause-legal
 returns-in-Some-clause-legal c =
-    let breaks : Breaks c.in-Some.why (acts_of (take c.loop-at.at c.args.log.now)) (act_of c.index-log-at.result) = rw c.in-Some.is at c.in_ok-why.ensures in
-    (λ is. absurd (not_legal _ _ is),
-    λ legal. absurd (breaks_refused c.in-Some.why (act_of c.index-log-at.result) (acts_of (take c.loop-at.at c.args.log.now)) breaks
-      (legal_front c.args.log.now c.loop-at.at c.index-log-at.result (search rules) c.index-log-at.is legal)))
+    let breaks : Breaks c.in-Some.why (acts_of (take c.loop-at.at c.args.log.now)) (act_of c.index-log-at.result) = rw c.in-Some.is at c.in_ok-why.ensures in (
+      λ is. absurd (not_legal _ _ is),
+      λ legal. absurd (breaks_refused c.in-Some.why (act_of c.index-log-at.result) (acts_of (take c.loop-at.at c.args.log.now)) breaks
+          (legal_front c.args.log.now c.loop-at.at c.index-log-at.result (search rules) c.index-log-at.is legal)),
+    )
 
 pub returns-in-Some-clause-illegal : goal.returns-in-Some-clause-illegal
 returns-in-Some-clause-illegal c =
     let breaks : Breaks c.in-Some.why (acts_of (take c.loop-at.at c.args.log.now)) (act_of c.index-log-at.result) = rw c.in-Some.is at c.in_ok-why.ensures in
     let first : IsFirstIllegal c.args.log.now c.index-log-at.result.lsn c.in-Some.why = first_illegal c.args.log.now c.loop-at.at c.index-log-at.result c.in-Some.why (search rules) c.index-log-at.is c.loop-at.invariant breaks in
     λ lsn reason is.
-      let same = same_parts (Ok (verdict.Illegal c.index-log-at.result.lsn c.in-Some.why)) c.index-log-at.result.lsn lsn c.in-Some.why reason refl is in
-      subst (IsFirstIllegal c.args.log.now lsn) same.1 (subst (λ (l : Lsn). IsFirstIllegal c.args.log.now l c.in-Some.why) same.0 first)
+    let same = same_parts (Ok (verdict.Illegal c.index-log-at.result.lsn c.in-Some.why)) c.index-log-at.result.lsn lsn c.in-Some.why reason refl is in
+    subst (IsFirstIllegal c.args.log.now lsn) same.1 (subst (λ (l : Lsn). IsFirstIllegal c.args.log.now l c.in-Some.why) same.0 first)
 
 pub loop-at-preserved : goal.loop-at-preserved
 loop-at-preserved c =

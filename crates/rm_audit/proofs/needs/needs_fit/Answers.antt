@@ -28,11 +28,12 @@ none_left first now page room start n none so_far =
 pub returns-then-need-room : goal.returns-then-need-room
 returns-then-need-room c =
     let now : List Change = reverse c.loop-txn.left.items in
-    let is : c.need_among-need.result ≡ need_in now c.args.page c.in-Some.txn.0 = rw c.deref-in-Some.ensures.value at c.need_among-need.ensures in
-    (λ yes. cc,
-    λ within. absurd (not_within (need_in (reverse c.args.left.items) c.args.page) c.args.room
-    (λ n enough. too_much (reverse c.args.left.items) now c.args.page c.in-Some.txn.0 c.loop-txn.room c.need_among-need.result c.args.room n
-    (omega (arith, enough)) is (omega arith) (c.loop-txn.invariant n enough)) within))
+    let is : c.need_among-need.result ≡ need_in now c.args.page c.in-Some.txn.0 = rw c.deref-in-Some.ensures.value at c.need_among-need.ensures in (
+      λ yes. cc,
+      λ within. absurd (not_within (need_in (reverse c.args.left.items) c.args.page) c.args.room
+          (λ n enough. too_much (reverse c.args.left.items) now c.args.page c.in-Some.txn.0 c.loop-txn.room c.need_among-need.result c.args.room n
+          (omega (arith, enough)) is (omega arith) (c.loop-txn.invariant n enough)) within),
+    )
 
 pub loop-txn-smaller : goal.loop-txn-smaller
 loop-txn-smaller c =
@@ -49,7 +50,8 @@ loop-txn-preserved c =
 
 pub returns : goal.returns
 returns c =
-    let none : c.loop-txn.left.items ≡ [] = sym c.deref.ensures.value ∙ c.in_default.ensures in
-    (λ yes. all_within (need_in (reverse c.args.left.items) c.args.page) c.args.room
-    (λ n enough. none_left (reverse c.args.left.items) (reverse c.loop-txn.left.items) c.args.page c.loop-txn.room c.args.room n (ap reverse none) (c.loop-txn.invariant n enough)),
-    λ within. refl)
+    let none : c.loop-txn.left.items ≡ [] = sym c.deref.ensures.value ∙ c.in_default.ensures in (
+      λ yes. all_within (need_in (reverse c.args.left.items) c.args.page) c.args.room
+          (λ n enough. none_left (reverse c.args.left.items) (reverse c.loop-txn.left.items) c.args.page c.loop-txn.room c.args.room n (ap reverse none) (c.loop-txn.invariant n enough)),
+      λ within. refl,
+    )
