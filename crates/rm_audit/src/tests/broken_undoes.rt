@@ -172,7 +172,7 @@ fn the_inventory_follows(rt: HostRuntime) -> Result<(), Fail> {
     Ok(())
 }
 
-const LISTS: [Broken; 11] = [
+const LISTS: [Broken; 12] = [
     // An end before the last undo, and without one.
     Broken(REFILLED, 9, 11, &[], 15_192, StillPending),
     Broken(LOWERED, 4, 6, &[], 1125, StillPending),
@@ -186,7 +186,8 @@ const LISTS: [Broken; 11] = [
         NextId,
     ),
     Broken(LISTED, 8, 9, &[Line(179, 0, List(3, &[]))], 179, NextId),
-    // A loser is forgotten, and one that has nothing pending.
+    // All losers are forgotten, one, and one that has nothing pending.
+    Broken(LISTED, 5, 6, &[Line(115, 0, List(4, &[]))], 115, Forgotten),
     Broken(
         LISTED,
         5,
