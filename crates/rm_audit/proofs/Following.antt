@@ -1,13 +1,13 @@
 -- Only a commit can leave an entry behind, and only on the pages of its transaction's pending changes.
-use Rattle.std.proofs.Common.{◌≡◌, ℕ, eqb, if◌then◌else◌, List, [], ◌∷◌, ◌⊎◌, refl, sym, ap, subst, ◌∙◌, inl, inr}
+use Rattle.std.proofs.Common.{◌≡◌, ℕ, eqb, if◌then◌else◌, List, [], ◌∷◌, refl, sym, ap, subst, ◌∙◌, inl, inr}
 use Rattle.std.proofs.lemmas.Bool.{cases_eq, eq-eqb, ne_eqb}
 use Rattle.rm_types.specs.declared.numbers.Rid.{Rid}
 use Rattle.rm_model.specs.Pages.{set_slot}
-use Rattle.rm_history.specs.Acts.{Act, Change, Undo, Entry, Finish, History, changes, undoes, enters, commits, ends, lists}
+use Rattle.rm_history.specs.Acts.{Act, Change, Undo, Entry, History, changes, undoes, enters, commits, ends, lists}
 use Rattle.rm_history.specs.Contents.{page_of, category_of, entry_of}
 use Rattle.rm_history.specs.Pending.{pending_of}
 use Rattle.rm_history.specs.Needs.{on_page}
-use Rattle.rm_history.specs.Rules.{MayCome, MayChange, MayUndo, MayEnter, IsPendingOn, EntriesFollow}
+use Rattle.rm_history.specs.Rules.{MayCome, MayUndo, MayEnter, EntriesFollow}
 use Rattle.rm_audit.specs.Parts.{FollowsOn, EachFollows}
 use Rattle.rm_audit.proofs.OnPage.{some_change}
 use Rattle.rm_audit.proofs.Room.{change_elsewhere, undo_elsewhere, not_set}

@@ -1,18 +1,16 @@
--- Which condition of a legal log a record breaks, and the verdict on a log.
+-- Which condition of a legal log a record breaks.
 use Rattle.std.specs.Prelude.{◌≡◌, ℕ, ◌<◌, List, [], ◌∷◌, ◌++◌, Option, MatchOption}
 use Rattle.rm_types.specs.declared.numbers.Lsn.{Lsn}
 use Rattle.rm_types.specs.declared.places.Place.{Place}
 use Rattle.rm_model.specs.Pages.{set_slot}
 use Rattle.rm_record.specs.declared.records.Logged.{Logged}
-use Rattle.rm_history.specs.Acts.{Act, Change, Undo, Entry, Finish, Listing, History, changes, undoes, enters, commits, ends, lists, act_of, acts_of, lsn_of, newest_lsn}
+use Rattle.rm_history.specs.Acts.{Act, Change, Undo, Entry, Listing, History, changes, undoes, enters, commits, ends, lists, act_of, acts_of, lsn_of, newest_lsn}
 use Rattle.rm_history.specs.Contents.{slot_at, page_of, category_of, entry_of}
 use Rattle.rm_history.specs.Pending.{pending_of, last_of, IsFinished, HasRecord, HasChange}
 use Rattle.rm_history.specs.Needs.{need_of, Fits}
 use Rattle.rm_history.specs.Rules.{IsLast, IsIn, EntriesFollow, IsLegal}
 use Rattle.rm_audit.specs.declared.verdicts.Illegal.{Illegal}
 use Rattle.rm_audit.specs.declared.verdicts.Illegal.TheVariants as why
-use Rattle.rm_audit.specs.declared.verdicts.Verdict.{Verdict}
-use Rattle.rm_audit.specs.declared.verdicts.Verdict.TheVariants as verdict
 
 -- the transaction of a record, if it is of one, is finished
 abbrev pub IsOfFinished : History → Act → Type 0
@@ -89,8 +87,3 @@ pub record IsFirstIllegal (log : List Logged) (lsn : Lsn) (why : Illegal) : Type
   pub legal : IsLegal (acts_of front)
   pub illegal : IsLegal (act_of first ∷ acts_of front) → ⊥
   pub breaks : Breaks why (acts_of front) (act_of first)
-
--- the verdict on a log
-abbrev pub IsVerdict : List Logged → Verdict → Type 0
-IsVerdict log verdict.Legal = IsLegal (acts_of log)
-IsVerdict log (verdict.Illegal lsn why) = IsFirstIllegal log lsn why

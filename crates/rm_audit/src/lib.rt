@@ -23,7 +23,7 @@ pub use changes::Change;
 pub use needs::need;
 pub use pages::{entry, page, version};
 pub use pending::{all_pending, pending_changes};
-pub use rows::row;
+pub use rows::{committed_rows, row};
 pub use transactions::{has_record, is_finished};
 pub use verdicts::{Illegal, Verdict};
 

@@ -1,16 +1,19 @@
 //! The committed rows of a log.
 
-ghost use Rattle.std.specs.Prelude.{◌≡◌, List, ◌∷◌, reverse, IfOk};
+ghost use Rattle.std.specs.Prelude.{◌≡◌, ◌∷◌, reverse, IfOk, OnOk};
 ghost use Rattle.rm_model.specs.Pages.{row_of};
-ghost use Rattle.rm_model.specs.Object.{Rows};
-ghost use Rattle.rm_history.specs.Acts.{Change as Changes, act_of, acts_of};
-ghost use Rattle.rm_history.specs.Pending.{applied, rows_of_log};
+ghost use Rattle.rm_model.specs.Object.{Rows as AllRows};
+ghost use Rattle.rm_types.specs.declared.slots.Slot.{Slot as Slots};
+ghost use Rattle.rm_history.specs.Acts.{act_of, acts_of};
+ghost use Rattle.rm_history.specs.Pending.{with_slot, applied, rows_of_log};
+ghost use Rattle.rm_audit.specs.Rows.{HasRows};
 
 use crate::changes::Change;
 use crate::pending::pending_changes;
 use rm_record::{LogRecord, Logged};
 use rm_types::{NoMemory, Rid, Row, Slot};
 use std::alloc::Global;
+use std::collections::BTreeMap;
 
 // The row in a slot, if it has one, copied.
 fn row_in(slot: &Slot) -> Result<Option<Row>, NoMemory>
@@ -22,55 +25,64 @@ fn row_in(slot: &Slot) -> Result<Option<Row>, NoMemory>
     }
 }
 
-// The row at a row id with one change more.
-fn change_step(row: Option<Row>, change: &Change, rid: Rid) -> Result<Option<Row>, NoMemory>
-    ensures { (rows : Rows) (before : List Changes) → row ≡ applied rows before rid → IfOk result (λ row. row ≡ applied rows (change.now ∷ before) rid) }
+// Has this row at a row id, or none.
+fn put(rows: &mut BTreeMap<Rid, Row>, rid: Rid, row: Option<Row>) -> Result<(), NoMemory>
+    ensures { (before : AllRows) (slot : Slots) → row ≡ row_of slot → HasRows rows.old before → OnOk result (HasRows rows.new (with_slot before rid slot)) }
 {
-    if rid.page == change.rid.page && rid.slot == change.rid.slot {
-        row_in(&change.after)
-    } else {
-        Ok(row)
+    match row {
+        Some(row) => {
+            rows.insert(rid, row)?;
+        }
+        None => {
+            rows.remove(&rid);
+        }
     }
+    Ok(())
 }
 
-// The row at a row id with these changes, the oldest first.
+// Makes these changes, the oldest first.
 #[tactic(auto, using(crate::proofs::Newest::reverse_more))]
-fn with_changes(mut row: Option<Row>, changes: &[Change], rid: Rid) -> Result<Option<Row>, NoMemory>
-    ensures { (rows : Rows) → row ≡ rows rid → IfOk result (λ row. row ≡ applied rows (reverse changes.now) rid) }
+fn apply(rows: &mut BTreeMap<Rid, Row>, changes: &[Change]) -> Result<(), NoMemory>
+    ensures { (before : AllRows) → HasRows rows.old before → OnOk result (HasRows rows.new (applied before (reverse changes.now))) }
 {
     for change in changes {
-        row = change_step(row, change, rid)?;
+        put(rows, change.rid, row_in(&change.after)?)?;
     }
-    Ok(row)
+    Ok(())
 }
 
-// The committed row at a row id behind one record more.
-fn row_step(
+// Brings the committed rows behind one record more.
+fn rows_step(
     alloc: Global,
-    row: Option<Row>,
+    rows: &mut BTreeMap<Rid, Row>,
     before: &[Logged],
     logged: &Logged,
-    rid: Rid,
-) -> Result<Option<Row>, NoMemory>
-    ensures { row ≡ rows_of_log (acts_of before.now) rid → IfOk result (λ row. row ≡ rows_of_log (act_of logged.now ∷ acts_of before.now) rid) }
+) -> Result<(), NoMemory>
+    ensures { HasRows rows.old (rows_of_log (acts_of before.now)) → OnOk result (HasRows rows.new (rows_of_log (act_of logged.now ∷ acts_of before.now))) }
 {
-    match &logged.what {
-        LogRecord::Commit { txn } => {
-            let changes = pending_changes(alloc, before, *txn)?;
-            with_changes(row, &changes, rid)
-        }
-        _ => Ok(row),
+    if let LogRecord::Commit { txn } = &logged.what {
+        let changes = pending_changes(alloc, before, *txn)?;
+        apply(rows, &changes)?;
     }
+    Ok(())
 }
 
-/// The committed row at a row id, if there is one: a commit makes its transaction's pending changes.
+/// The committed rows, in order of their pages and slots: a commit makes its transaction's pending changes.
 #[tactic(auto, using(crate::proofs::Fronts::acts_more))]
+pub fn committed_rows(alloc: Global, log: &[Logged]) -> Result<BTreeMap<Rid, Row>, NoMemory>
+    ensures { IfOk result (λ rows. HasRows rows (rows_of_log (acts_of log.now))) }
+{
+    let mut rows = BTreeMap::new(alloc);
+    for at in 0..log.len() {
+        rows_step(alloc, &mut rows, &log[..at], &log[at])?;
+    }
+    Ok(rows)
+}
+
+/// The committed row at a row id, if there is one.
 pub fn row(alloc: Global, log: &[Logged], rid: Rid) -> Result<Option<Row>, NoMemory>
     ensures { IfOk result (λ row. row ≡ rows_of_log (acts_of log.now) rid) }
 {
-    let mut row = None;
-    for at in 0..log.len() {
-        row = row_step(alloc, row, &log[..at], &log[at], rid)?;
-    }
-    Ok(row)
+    let mut rows = committed_rows(alloc, log)?;
+    Ok(rows.remove(&rid))
 }

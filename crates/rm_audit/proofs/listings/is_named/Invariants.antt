@@ -1,4 +1,4 @@
-use Rattle.std.proofs.Common.{◌≡◌, ℕ, take}
+use Rattle.std.proofs.Common.{◌≡◌, take}
 use Rattle.rm_types.specs.declared.places.Place.{Place}
 use Rattle.rm_history.specs.Rules.{IsIn}
 use Rattle.rm_audit.proofs.listings.is_named.Given as goal

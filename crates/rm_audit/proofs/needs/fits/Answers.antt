@@ -1,4 +1,4 @@
-use Rattle.std.proofs.Common.{◌≡◌, ℕ, ◌+◌, ◌<◌, ◌≤◌, ap, sym, arith, rules}
+use Rattle.std.proofs.Common.{◌≡◌, ℕ, ◌+◌, ◌<◌, arith}
 use Rattle.rm_types.specs.declared.slots.TheConstants.{CAPACITY}
 use Rattle.rm_model.specs.Pages.{used}
 use Rattle.rm_history.specs.Acts.{acts_of}

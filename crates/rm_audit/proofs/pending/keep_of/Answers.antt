@@ -1,7 +1,5 @@
-use Rattle.std.proofs.Common.{◌≡◌, List, reverse, sym, ap, ◌∙◌, rules}
-use Rattle.std.specs.List.{filter}
+use Rattle.std.proofs.Common.{reverse, sym, ap, ◌∙◌, rules}
 use Rattle.std.proofs.lemmas.Fn.{filter_same}
-use Rattle.rm_history.specs.Acts.{Change}
 use Rattle.rm_audit.proofs.Kept.{is_of, filter-reverse, of_txn-is}
 use Rattle.rm_audit.proofs.pending.keep_of.Goals as goal
 

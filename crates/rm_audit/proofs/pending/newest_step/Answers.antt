@@ -1,4 +1,4 @@
-use Rattle.std.proofs.Common.{◌≡◌, sym, ap, ◌∙◌}
+use Rattle.std.proofs.Common.{sym, ap, ◌∙◌}
 use Rattle.rm_history.specs.Acts.{Change}
 use Rattle.rm_audit.proofs.Newest.{newest_of_it, newest_of_other}
 use Rattle.rm_audit.proofs.pending.newest_step.Goals as goal

@@ -1,7 +1,5 @@
-use Rattle.std.proofs.Common.{◌≡◌, List, not, reverse, sym, ap, ◌∙◌, rules}
-use Rattle.std.specs.List.{filter}
+use Rattle.std.proofs.Common.{not, reverse, sym, ap, ◌∙◌, rules}
 use Rattle.std.proofs.lemmas.Fn.{filter_same}
-use Rattle.rm_history.specs.Acts.{Change}
 use Rattle.rm_audit.proofs.Kept.{is_of, filter-reverse, without-is}
 use Rattle.rm_audit.proofs.pending.remove_of.Goals as goal
 

@@ -1,7 +1,0 @@
-use Rattle.std.proofs.Common.{◌≡◌, take}
-use Rattle.rm_history.specs.Acts.{acts_of}
-use Rattle.rm_history.specs.Pending.{rows_of_log}
-use Rattle.rm_audit.proofs.rows.row.Given as goal
-
-abbrev pub invariant-loop-at : goal.invariant-loop-at
-invariant-loop-at l = l.row ≡ rows_of_log (acts_of (take l.at l.log)) l.rid
