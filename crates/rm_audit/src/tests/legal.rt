@@ -7,9 +7,12 @@ use super::logs::{
 };
 use crate::pages::used;
 use crate::slots::{are_same, holds};
-use crate::{Verdict, audit, entry, need, page, row};
+use crate::{
+    Verdict, all_pending, audit, committed_rows, entry, has_record, is_finished, need, page,
+    pending_changes, row, version,
+};
 use rm_record::Logged;
-use rm_types::{Rid, Row, Slot, TxnId};
+use rm_types::{Lsn, Rid, Row, Slot, TxnId};
 use std::alloc::Global;
 use std::process::Abort;
 use std::test::Fail;
@@ -110,10 +113,41 @@ fn the_rows_are_those_of_commits(rt: HostRuntime) -> Result<(), Fail> {
     let log = log_of(alloc, LISTED.lines)?;
     assert_eq!(rt; log.len(), 9);
     let pending = &log[..6];
+    assert_eq!(rt; committed_rows(alloc, pending)?.len(), 1);
     assert!(rt; is_row(alloc, pending, 0, 0x61)?);
     assert!(rt; !is_row(alloc, pending, 1, 0x62)?);
+    assert_eq!(rt; committed_rows(alloc, &log)?.len(), 2);
     assert!(rt; is_row(alloc, &log, 1, 0x62)?);
     assert!(rt; !is_row(alloc, &log, 2, 0x63)?);
+    Ok(())
+}
+
+// The commit sets no slot, so the page has the version of the undo before it.
+#[test]
+fn transactions_are_told_apart(rt: HostRuntime) -> Result<(), Fail> {
+    let log = log_of(rt.alloc(), LISTED.lines)?;
+    assert_eq!(rt; log.len(), 9);
+    assert_eq!(rt; version(&log[..7], 0), Lsn(87));
+    assert_eq!(rt; version(&log, 1), Lsn(0));
+    assert!(rt; has_record(&log[..6], TxnId(3)) && !has_record(&log, TxnId(4)));
+    assert!(rt; is_finished(&log[..6], TxnId(1)) && !is_finished(&log[..6], TxnId(3)));
+    assert!(rt; is_finished(&log, TxnId(3)));
+    Ok(())
+}
+
+#[test]
+fn pending_changes_come_in_order(rt: HostRuntime) -> Result<(), Fail> {
+    let alloc = rt.alloc();
+    let log = log_of(alloc, REFILLED.lines)?;
+    assert_eq!(rt; log.len(), 12);
+    let mut lsns = Vec::new(alloc);
+    for change in &pending_changes(alloc, &log[..8], TxnId(2))? {
+        lsns.push(change.lsn)?;
+    }
+    assert_eq!(rt; lsns.as_slice(), [Lsn(4048), Lsn(8081)].as_slice());
+    let undone = all_pending(alloc, &log[..9])?;
+    assert_eq!(rt; undone.last().map(|last| last.lsn), Some(Lsn(4048)));
+    assert_eq!(rt; all_pending(alloc, &log)?.len(), 0);
     Ok(())
 }
 
