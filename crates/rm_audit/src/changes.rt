@@ -1,7 +1,7 @@
 //! The changes of slots.
 
-ghost use Rattle.std.specs.Prelude.{◌≡◌, IfOk};
-ghost use Rattle.rm_history.specs.Acts.{act_of};
+ghost use Rattle.std.specs.Prelude.{◌≡◌, ℕ, option_map, IfOk};
+ghost use Rattle.rm_history.specs.Acts.{Change as Changes, act_at, act_of};
 ghost use Rattle.rm_audit.specs.Parts.{change_in};
 
 use rm_record::{LogRecord, Logged};
@@ -28,59 +28,58 @@ impl Model for Change {
     ghost view = { λ c. record { lsn = c.lsn.0; txn = c.txn.0; under = c.under.0; rid = c.rid; need = c.need; before = c.before; after = c.after } };
 }
 
+// What the slot of a change held and holds, copied, where the record is a change.
+fn slots_of(what: &LogRecord) -> Result<Option<(Slot, Slot)>, NoMemory>
+    ensures { (lsn : ℕ) → IfOk result (λ found. found ≡ option_map (λ (c : Changes). (c.before, c.after)) (change_in (act_at lsn what.now))) }
+{
+    match what {
+        LogRecord::Insert { row, .. } => { Ok(Some((Slot::Vacant, Slot::Row(row.try_clone()?)))) }
+        LogRecord::Delete { old, .. } => Ok(Some((Slot::Row(old.try_clone()?), Slot::Vacant))),
+        LogRecord::Update { old, new, .. } => {
+            let before = Slot::Row(old.try_clone()?);
+            Ok(Some((before, Slot::Row(new.try_clone()?))))
+        }
+        _ => Ok(None),
+    }
+}
+
 /// The change that a record makes, if it makes one forward.
 pub(crate) fn change_of(logged: &Logged) -> Result<Option<Change>, NoMemory>
     ensures { IfOk result (λ found. found ≡ change_in (act_of logged.now)) }
 {
-    let lsn = logged.lsn;
-    let change = match &logged.what {
+    let Some((before, after)) = slots_of(&logged.what)? else {
+        return Ok(None);
+    };
+    match &logged.what {
         LogRecord::Insert {
             txn,
             under,
             rid,
             need,
-            row,
-        } => Change {
-            lsn,
-            txn: *txn,
-            under: *under,
-            rid: *rid,
-            need: *need,
-            before: Slot::Vacant,
-            after: Slot::Row(row.try_clone()?),
-        },
-        LogRecord::Delete {
+            ..
+        }
+        | LogRecord::Delete {
             txn,
             under,
             rid,
             need,
-            old,
-        } => Change {
-            lsn,
-            txn: *txn,
-            under: *under,
-            rid: *rid,
-            need: *need,
-            before: Slot::Row(old.try_clone()?),
-            after: Slot::Vacant,
-        },
-        LogRecord::Update {
+            ..
+        }
+        | LogRecord::Update {
             txn,
             under,
             rid,
             need,
-            old,
-            new,
-        } => Change {
-            lsn,
+            ..
+        } => Ok(Some(Change {
+            lsn: logged.lsn,
             txn: *txn,
             under: *under,
             rid: *rid,
             need: *need,
-            before: Slot::Row(old.try_clone()?),
-            after: Slot::Row(new.try_clone()?),
-        },
-        _ => return Ok(None),
-    };
-    Ok(Some(change))
+            before,
+            after,
+        })),
+        _ => Ok(None),
+    }
 }
