@@ -3,3 +3,4 @@ pub mod FrontLaws
 pub mod BlockLaws
 pub mod FreshLaws
 pub mod Gates
+pub mod Examples

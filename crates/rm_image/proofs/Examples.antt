@@ -1,0 +1,80 @@
+-- The definitions of blocks, redo offsets, checkpoints and copies, on examples.
+use Rattle.std.proofs.Common.{◌≡◌, ℕ, ◌<◌, ◌≤◌, List, [], ◌∷◌, inl, inr, refl, arith, lit<, lit≤}
+use Rattle.rm_types.specs.declared.numbers.Rid.{Rid}
+use Rattle.rm_types.specs.declared.places.Place.{Place}
+use Rattle.rm_types.specs.declared.slots.Slot.{Slot}
+use Rattle.rm_types.specs.declared.slots.Slot.TheVariants.{Vacant, Row}
+use Rattle.rm_history.specs.Acts.{Change, Finish, History, changes, commits}
+use Rattle.rm_image.specs.Blocks.{entry_in, IsRowAt, AreApart}
+use Rattle.rm_image.specs.Whole.{StandsFor, place_or, blocks_of}
+use Rattle.rm_image.specs.Copies.{copied_page, copied_block}
+
+abbrev row : List ℕ
+row = 97 ∷ []
+
+-- one insert into page 0, at LSN 5, and its commit at 29
+abbrev insert : Change
+insert = record { lsn = 5; txn = 1; under = 0; rid = record { page = 0; slot = 0 }; need = 0; before = Vacant; after = Row row }
+
+abbrev commit : Finish
+commit = record { lsn = 29; txn = 1 }
+
+abbrev history : History
+history = commits commit ∷ changes insert ∷ []
+
+-- both stand in the batch with the gate 0
+abbrev gates : ℕ → ℕ
+gates lsn = 0
+
+-- a block of zeros lacks the insert, which its redo offset allows; behind the batch it may lack no record
+lacks_it : StandsFor gates history 0 0 [] 0
+lacks_it = (λ le. absurd (omega (arith, le)), λ lt. (λ on. absurd on, (λ le. absurd (omega (arith, le)), λ more. (λ on. omega arith, (refl, refl)))))
+
+may_not : StandsFor gates history 0 0 [] 34 → ⊥
+may_not stands = omega (arith, ((stands.1 (lit< tt)).1.1 (lit< tt)).0 refl)
+
+-- the block that has it may have any redo offset
+has_it : StandsFor gates history 0 5 (Row row ∷ []) 34
+has_it = (λ le. absurd (omega (arith, le)), λ lt. (λ on. absurd on, (λ le. (refl, refl), λ more. absurd (omega (arith, more)))))
+
+-- a page without records is of version 0
+other_page : StandsFor gates history 1 0 [] 34
+other_page = (λ le. absurd (omega (arith, le)), λ lt. (λ on. absurd on, (λ le. absurd (omega (arith, le)), λ more. (λ on. absurd (omega (arith, on)), (refl, refl)))))
+
+-- no block has the commit's LSN
+not_of_commit : StandsFor gates history 0 29 (Row row ∷ []) 0 → ⊥
+not_of_commit stands = omega (arith, (stands.0 (lit≤ tt)).0)
+
+-- a row that ends where its block does, and one byte further
+ends_there : IsRowAt 1 4095 row
+ends_there = record { behind = lit≤ tt; short = lit≤ tt; inside = lit≤ tt }
+
+too_far : IsRowAt 1 4096 row → ⊥
+too_far at = omega (arith, at.inside)
+
+-- and one that lies in the directory
+in_directory : IsRowAt 1 19 row → ⊥
+in_directory at = omega (arith, at.behind)
+
+-- rows beside each other are apart, and rows of no bytes are anywhere
+beside : AreApart 100 (Row row) 101 (Row row)
+beside = inr (inr (inl (lit≤ tt)))
+
+empty : AreApart 100 (Row row) 100 (Row [])
+empty = inr (inl refl)
+
+-- the four entries of a byte, the first in its lowest bits
+four_entries : (entry_in 228 0 ≡ 0) × (entry_in 228 1 ≡ 1) × (entry_in 228 2 ≡ 2) × (entry_in 228 3 ≡ 3)
+four_entries = (refl, refl, refl, refl)
+
+-- the blocks of the inventory that so many pages want
+some_blocks : (blocks_of 1 ≡ 1) × (blocks_of 1024 ≡ 1) × (blocks_of 1025 ≡ 2) × (blocks_of 16384 ≡ 16)
+some_blocks = (refl, refl, refl, refl)
+
+-- a listed block has its own offset, any other that of the batch
+listed : (place_or (record { number = 3; at = 10 } ∷ []) 3 99 ≡ 10) × (place_or (record { number = 3; at = 10 } ∷ []) 4 99 ≡ 99)
+listed = (refl, refl)
+
+-- where the halves of area Copy have their blocks
+copies : (copied_page 1 7 ≡ 7) × (copied_page 2 7 ≡ 16407) × (copied_block 1 0 ≡ 16384) × (copied_block 2 15 ≡ 32799)
+copies = (refl, refl, refl, refl)
