@@ -1,97 +1,131 @@
--- A record that breaks a condition makes no legal history.
-use Rattle.std.proofs.Common.{◌≡◌, List, ◌∷◌, refl, ap, ◌∙◌, inl, inr}
-use Rattle.rm_model.specs.Pages.{set_slot}
-use Rattle.rm_history.specs.Acts.{Act, Change, Undo, Entry, Finish, Listing, History, changes, undoes, enters, commits, ends, lists}
-use Rattle.rm_history.specs.Contents.{page_of, category_of}
+-- A legal history breaks no condition, and a first broken condition is found by parts.
+use Rattle.std.proofs.Common.{◌≡◌, ℕ, List, [], ◌∷◌, ◌++◌, refl, ap, ◌∙◌, inl, inr}
+use Rattle.rm_types.specs.declared.formats.Format.{Format}
+use Rattle.rm_history.specs.Acts.{Act, Change, Undo, Entry, Listing, History, changes, undoes, enters, commits, ends, lists}
 use Rattle.rm_history.specs.Pending.{pending_of, last_of}
-use Rattle.rm_history.specs.Rules.{MayChange, MayUndo, MayEnter, MayEnd, MayList, MayCome, IsLegal}
+use Rattle.rm_history.specs.Rules.{IsLast, MayList, MayCome}
+use Rattle.rm_history.specs.Legal.{category_with, IsEntry, IsEntered, IsLegal}
 use Rattle.rm_audit.specs.declared.verdicts.Illegal.{Illegal}
 use Rattle.rm_audit.specs.declared.verdicts.Illegal.TheVariants as why
-use Rattle.rm_audit.specs.Verdicts.{ChangeBreaks, UndoBreaks, EntryBreaks, ListingBreaks, KindBreaks, IsOfFinished, Breaks}
+use Rattle.rm_audit.specs.Breaks.{UndoBreaks, ListingBreaks, Breaks}
+use Rattle.rm_audit.specs.Verdicts.{coming_of, entering_of, conditions_of, IsFirstBroken}
 
-change_refused : (reason : Illegal) (before : History) (c : Change) → ChangeBreaks reason before c → MayChange before c → ⊥
-change_refused why.NotHeld before c breaks may = breaks may.held
-change_refused why.Others before c breaks may = breaks.3 (may.others breaks.0 breaks.1 breaks.2)
-change_refused why.Under before c breaks may = breaks may.under_is
-change_refused why.Need before c breaks may = breaks may.need_is
-change_refused _ before c breaks may = absurd breaks
+-- the record breaks none of these conditions
+abbrev pub BreaksNone : Format → List Illegal → History → Act → Type 0
+BreaksNone format [] before act = Unit {0}
+BreaksNone format (x ∷ xs) before act = (Breaks format x before act → ⊥) × BreaksNone format xs before act
 
--- the last pending change is one
+-- ---- lists of conditions
+
+-- where none of two parts is broken, none of both is
+none_append : (format : Format) (xs ys : List Illegal) (before : History) (act : Act) → BreaksNone format xs before act → BreaksNone format ys before act → BreaksNone format (xs ++ ys) before act
+none_append format [] ys before act none also = also
+none_append format (x ∷ xs) ys before act none also = (none.0, none_append format xs ys before act none.1 also)
+
+-- where none is broken, none is broken first
+none_first : (format : Format) (xs : List Illegal) (before : History) (act : Act) (broken : Illegal) → BreaksNone format xs before act → IsFirstBroken format xs before act broken → ⊥
+none_first format [] before act broken none first = first
+none_first format (x ∷ xs) before act broken none first =
+    elim first [ inl here ↦ none.0 here.1 | inr later ↦ none_first format xs before act broken none.1 later.1 ]
+
+-- the first of a front that is broken is the first of all
+pub first_append : (format : Format) (xs ys : List Illegal) (before : History) (act : Act) (broken : Illegal) → IsFirstBroken format xs before act broken → IsFirstBroken format (xs ++ ys) before act broken
+first_append format [] ys before act broken first = absurd first
+first_append format (x ∷ xs) ys before act broken first =
+    elim first [ inl here ↦ inl here | inr later ↦ inr (later.0, first_append format xs ys before act broken later.1) ]
+
+-- where none of a front is broken, the first of the rest is the first of all
+pub first_behind : (format : Format) (xs ys : List Illegal) (before : History) (act : Act) (broken : Illegal) → BreaksNone format xs before act → IsFirstBroken format ys before act broken
+    → IsFirstBroken format (xs ++ ys) before act broken
+first_behind format [] ys before act broken none first = first
+first_behind format (x ∷ xs) ys before act broken none first = inr (none.0, first_behind format xs ys before act broken none.1 first)
+
+-- ---- what is met is not broken
+
+-- the first of a list is one
 same_last : (pending : List Change) (last other : Change) (rest others : List Change) → pending ≡ last ∷ rest → pending ≡ other ∷ others → other ≡ last
 same_last pending last other rest others is also = cc
 
-undo_refused : (reason : Illegal) (before : History) (u : Undo) → UndoBreaks reason before u → MayUndo before u → ⊥
-undo_refused why.Undone before u breaks may = breaks may.last may.is_last may.undone_is
-undo_refused why.Rid before u breaks may =
-    breaks.2 (may.rid_is ∙ ap (λ (x : Change). x.rid) (same_last (pending_of before u.txn) breaks.0 may.last breaks.1.0 may.is_last.0 breaks.1.1 may.is_last.1))
-undo_refused why.Next before u breaks may =
-    breaks.2 (may.next_is ∙ ap (λ (x : Change). x.under) (same_last (pending_of before u.txn) breaks.0 may.last breaks.1.0 may.is_last.0 breaks.1.1 may.is_last.1))
-undo_refused why.Back before u breaks may =
-    breaks.2 (may.back_is ∙ ap (λ (x : Change). x.before) (same_last (pending_of before u.txn) breaks.0 may.last breaks.1.0 may.is_last.0 breaks.1.1 may.is_last.1))
-undo_refused why.Entry before u breaks may = breaks may.entered
-undo_refused _ before u breaks may = absurd breaks
+-- and so are two changes that are the last
+last_is : (before : History) (txn : ℕ) (last other : Change) → IsLast before txn last → IsLast before txn other → other ≡ last
+last_is before txn last other is also = same_last (pending_of before txn) last other is.0 also.0 is.1 also.1
 
-entry_refused : (reason : Illegal) (before : History) (e : Entry) → EntryBreaks reason before e → MayEnter before e → ⊥
-entry_refused why.NoChange before e breaks may = breaks may.last may.is_last may.page_is
-entry_refused why.SameCategory before e breaks may = may.differs breaks
-entry_refused why.WrongCategory before e breaks may =
-    let last_is : may.last ≡ breaks.1.0 = same_last (pending_of before e.txn) breaks.1.0 may.last breaks.1.1.0 may.is_last.0 breaks.1.1.1 may.is_last.1 in
-    elim may.right [
-      | inl now ↦ breaks.0 now
-      | inr after ↦ breaks.1.2 (after ∙ ap (λ (x : Change). category_of (set_slot (page_of before e.page) x.rid.slot x.before)) last_is)
-    ]
-entry_refused _ before e breaks may = absurd breaks
+-- a compensation that names the last pending change
+pub undone_met : (before : History) (u : Undo) (last : Change) → IsLast before u.txn last → u.undone ≡ last.lsn → UndoBreaks why.Undone before u → ⊥
+undone_met before u last is same breaks = breaks last is same
 
-listing_refused : (reason : Illegal) (before : History) (l : Listing) → ListingBreaks reason before l → MayList before l → ⊥
-listing_refused why.NextId before l breaks may = breaks.2 (may.next_is breaks.0 breaks.1)
-listing_refused why.Forgotten before l breaks may =
+-- one on its row id
+pub rid_met : (before : History) (u : Undo) (last : Change) → IsLast before u.txn last → u.rid ≡ last.rid → UndoBreaks why.Rid before u → ⊥
+rid_met before u last is same breaks = breaks.2 (same ∙ ap (λ (x : Change). x.rid) (last_is before u.txn breaks.0 last breaks.1 is))
+
+-- one that names the pending record below it
+pub next_met : (before : History) (u : Undo) (last : Change) → IsLast before u.txn last → u.next ≡ last.under → UndoBreaks why.Next before u → ⊥
+next_met before u last is same breaks = breaks.2 (same ∙ ap (λ (x : Change). x.under) (last_is before u.txn breaks.0 last breaks.1 is))
+
+-- one that puts back what its slot held before it
+back_met : (before : History) (u : Undo) (last : Change) → IsLast before u.txn last → u.back ≡ last.before → UndoBreaks why.Back before u → ⊥
+back_met before u last is same breaks = breaks.2 (same ∙ ap (λ (x : Change). x.before) (last_is before u.txn breaks.0 last breaks.1 is))
+
+-- a checkpoint that lists each loser
+forgotten_met : (before : History) (l : Listing) → MayList before l → ListingBreaks why.Forgotten before l → ⊥
+forgotten_met before l may breaks =
     breaks.4 (record { number = breaks.0; at = last_of (pending_of before breaks.0) }) (may.all breaks.0 breaks.1 breaks.2 breaks.3) refl
-listing_refused why.TooMany before l breaks may =
-    let is = may.only breaks.0 breaks.1 in
-    is.1 (breaks.2 is.0)
-listing_refused why.LoserPlace before l breaks may = let is = may.only breaks.0 breaks.1 in breaks.2 is.2
-listing_refused _ before l breaks may = absurd breaks
 
-end_refused : (reason : Illegal) (before : History) (f : Finish) → KindBreaks reason before (ends f) → MayEnd before f → ⊥
-end_refused why.StillPending before f breaks may = breaks may.none
-end_refused _ before f breaks may = absurd breaks
+-- one that lists losers alone
+too_many_met : (before : History) (l : Listing) → MayList before l → ListingBreaks why.TooMany before l → ⊥
+too_many_met before l may breaks = let is = may.only breaks.0 breaks.1 in is.1 (breaks.2 is.0)
 
-kind_refused : (reason : Illegal) (act : Act) (before : History) → KindBreaks reason before act → MayCome before act → ⊥
-kind_refused reason (changes c) before breaks may = change_refused reason before c breaks may
-kind_refused reason (undoes u) before breaks may = undo_refused reason before u breaks may
-kind_refused reason (enters e) before breaks may = entry_refused reason before e breaks may
-kind_refused reason (commits f) before breaks may = absurd breaks
-kind_refused reason (ends f) before breaks may = end_refused reason before f breaks may
-kind_refused reason (lists l) before breaks may = listing_refused reason before l breaks may
+-- one that lists each with its last pending change
+loser_place_met : (before : History) (l : Listing) → MayList before l → ListingBreaks why.LoserPlace before l → ⊥
+loser_place_met before l may breaks = let is = may.only breaks.0 breaks.1 in breaks.2 is.2
 
-finished_refused : (act : Act) (before : History) → IsOfFinished before act → MayCome before act → ⊥
-finished_refused (changes c) before is may = may.unfinished is
-finished_refused (undoes u) before is may = may.unfinished is
-finished_refused (enters e) before is may = may.unfinished is
-finished_refused (commits f) before is may = may is
-finished_refused (ends f) before is may = may.unfinished is
-finished_refused (lists l) before is may = absurd is
+-- an inventory record with the right category
+category_met : (format : Format) (before : History) (e : Entry) → IsEntry format before e → Breaks format why.WrongCategory before (enters e) → ⊥
+category_met format before e is breaks =
+    elim is.right [
+      | inl now ↦ breaks.0 now
+      | inr undone ↦ breaks.1.2 (undone.2 ∙ ap (λ (x : Change). category_with format before x.rid x.before) (last_is before e.txn breaks.1.0 undone.0 breaks.1.1 undone.1))
+    ]
 
--- a record that breaks a condition makes no legal history
-pub breaks_refused : (reason : Illegal) (act : Act) (before : History) → Breaks reason before act → IsLegal (act ∷ before) → ⊥
-breaks_refused why.NotAbove act before breaks legal = breaks legal.1.above
-breaks_refused why.Finished act before breaks legal = finished_refused act before breaks legal.1.may_come
-breaks_refused why.NoRoom act before breaks legal = breaks legal.1.fits
-breaks_refused why.EntryBehind act before breaks legal = breaks legal.2
-breaks_refused why.NotHeld act before breaks legal = kind_refused why.NotHeld act before breaks legal.1.may_come
-breaks_refused why.Others act before breaks legal = kind_refused why.Others act before breaks legal.1.may_come
-breaks_refused why.Under act before breaks legal = kind_refused why.Under act before breaks legal.1.may_come
-breaks_refused why.Need act before breaks legal = kind_refused why.Need act before breaks legal.1.may_come
-breaks_refused why.Undone act before breaks legal = kind_refused why.Undone act before breaks legal.1.may_come
-breaks_refused why.Rid act before breaks legal = kind_refused why.Rid act before breaks legal.1.may_come
-breaks_refused why.Next act before breaks legal = kind_refused why.Next act before breaks legal.1.may_come
-breaks_refused why.Back act before breaks legal = kind_refused why.Back act before breaks legal.1.may_come
-breaks_refused why.Entry act before breaks legal = kind_refused why.Entry act before breaks legal.1.may_come
-breaks_refused why.NoChange act before breaks legal = kind_refused why.NoChange act before breaks legal.1.may_come
-breaks_refused why.SameCategory act before breaks legal = kind_refused why.SameCategory act before breaks legal.1.may_come
-breaks_refused why.WrongCategory act before breaks legal = kind_refused why.WrongCategory act before breaks legal.1.may_come
-breaks_refused why.StillPending act before breaks legal = kind_refused why.StillPending act before breaks legal.1.may_come
-breaks_refused why.NextId act before breaks legal = kind_refused why.NextId act before breaks legal.1.may_come
-breaks_refused why.Forgotten act before breaks legal = kind_refused why.Forgotten act before breaks legal.1.may_come
-breaks_refused why.TooMany act before breaks legal = kind_refused why.TooMany act before breaks legal.1.may_come
-breaks_refused why.LoserPlace act before breaks legal = kind_refused why.LoserPlace act before breaks legal.1.may_come
+-- a record that may come breaks none of what may come
+pub may_breaks_none : (format : Format) (act : Act) (before : History) → MayCome before act → BreaksNone format (coming_of act) before act
+may_breaks_none format (changes c) before may =
+    (may.unfinished, (λ no. no may.held, (λ held. held.3 (may.others held.0 held.1 held.2), (λ no. no may.under_is, (λ no. no may.need_is, tt)))))
+may_breaks_none format (undoes u) before may = (
+  may.unfinished,
+  (
+    undone_met before u may.last may.is_last may.undone_is,
+    (
+      rid_met before u may.last may.is_last may.rid_is,
+      (next_met before u may.last may.is_last may.next_is, (back_met before u may.last may.is_last may.back_is, tt)),
+    ),
+  ),
+)
+may_breaks_none format (enters e) before may = (may.unfinished, (λ no. no may.last may.is_last may.page_is, tt))
+may_breaks_none format (commits f) before may = (may, tt)
+may_breaks_none format (ends f) before may = (may.unfinished, (λ some. some may.none, tt))
+may_breaks_none format (lists l) before may =
+    (λ above. above.2 (may.next_is above.0 above.1), (forgotten_met before l may, (too_many_met before l may, (loser_place_met before l may, tt))))
+
+-- a record that has what it asks of the inventory breaks none of that
+pub entered_breaks_none : (format : Format) (act : Act) (before : History) → IsEntered format before act → BreaksNone format (entering_of act) before act
+entered_breaks_none format (changes c) before is = tt
+entered_breaks_none format (undoes u) before is = (λ no. no is, tt)
+entered_breaks_none format (enters e) before is = (λ same. is.differs same, (category_met format before e is, tt))
+entered_breaks_none format (commits f) before is = tt
+entered_breaks_none format (ends f) before is = tt
+entered_breaks_none format (lists l) before is = tt
+
+-- a record with which a history is legal breaks none of its conditions
+legal_breaks_none : (format : Format) (act : Act) (before : History) → IsLegal format (act ∷ before) → BreaksNone format (conditions_of act) before act
+legal_breaks_none format act before legal =
+    let behind : BreaksNone format (why.EntryBehind ∷ []) before act = (λ no. no legal.2.follow, tt) in
+    let inventory : BreaksNone format (entering_of act ++ why.EntryBehind ∷ []) before act =
+    none_append format (entering_of act) (why.EntryBehind ∷ []) before act (entered_breaks_none format act before legal.2.entered) behind in (
+      λ no. no legal.1.above,
+      none_append format (coming_of act) (why.NoRoom ∷ entering_of act ++ why.EntryBehind ∷ []) before act (may_breaks_none format act before legal.1.may_come) (λ no. no legal.1.fits, inventory),
+    )
+
+-- a record that breaks one first makes no legal history
+pub first_refused : (format : Format) (act : Act) (before : History) (broken : Illegal) → IsFirstBroken format (conditions_of act) before act broken → IsLegal format (act ∷ before) → ⊥
+first_refused format act before broken first legal = none_first format (conditions_of act) before act broken (legal_breaks_none format act before legal) first

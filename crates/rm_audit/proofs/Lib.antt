@@ -1,5 +1,6 @@
 pub mod Breaking
 pub mod FirstIllegal
+pub mod Firsts
 pub mod Following
 pub mod Fronts
 pub mod Judging

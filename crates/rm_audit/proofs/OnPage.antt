@@ -4,7 +4,7 @@ use Rattle.std.proofs.lemmas.Bool.{cases_eq, eq-eqb, ne_eqb}
 use Rattle.rm_history.specs.Acts.{Change, History}
 use Rattle.rm_history.specs.Pending.{all_pending}
 use Rattle.rm_history.specs.Needs.{on_page}
-use Rattle.rm_history.specs.Rules.{IsPendingOn}
+use Rattle.rm_history.specs.Legal.{IsPendingOn}
 use Rattle.rm_audit.specs.Parts.{of_txn}
 use Rattle.rm_audit.proofs.Pendings.{pending_is}
 

@@ -1,6 +1,7 @@
 -- What of a record, and of what is pending, the audit looks at.
 use Rattle.std.specs.Prelude.{◌≡◌, ℕ, ◌+◌, ◌<◌, ◌≤◌, ◌==◌, if◌then◌else◌, List, [], ◌∷◌, length, reverse, Option, Some, None, ◌⊎◌}
 use Rattle.std.specs.List.{remove}
+use Rattle.rm_types.specs.declared.formats.Format.{Format}
 use Rattle.rm_types.specs.declared.places.Place.{Place}
 use Rattle.rm_types.specs.declared.slots.TheConstants.{CAPACITY}
 use Rattle.rm_model.specs.Pages.{used}
@@ -8,7 +9,8 @@ use Rattle.rm_history.specs.Acts.{Act, Change, History, changes, undoes, enters,
 use Rattle.rm_history.specs.Contents.{page_of, entry_of, category_of}
 use Rattle.rm_history.specs.Pending.{without_newest}
 use Rattle.rm_history.specs.Needs.{on_page, need_for, need_of, sum_below}
-use Rattle.rm_history.specs.Rules.{IsIn, IsPendingOn}
+use Rattle.rm_history.specs.Rules.{IsIn}
+use Rattle.rm_history.specs.Legal.{IsPendingOn}
 
 -- the change that a record makes, if it makes one forward
 abbrev pub change_in : Act → Option Change
@@ -56,13 +58,13 @@ abbrev pub FitsOn : History → ℕ → Type 0
 FitsOn history page = (n : ℕ) → used (page_of history page) + sum_below (λ txn. need_of history txn page) n ≤ CAPACITY
 
 -- a page's entry is its category, or it has a pending change
-abbrev pub FollowsOn : History → ℕ → Type 0
-FollowsOn history page = (entry_of history page ≡ category_of (page_of history page)) ⊎ IsPendingOn history page
+abbrev pub FollowsOn : Format → History → ℕ → Type 0
+FollowsOn format history page = (entry_of history page ≡ category_of format (page_of history page)) ⊎ IsPendingOn history page
 
 -- each page of these changes follows
-abbrev pub EachFollows : History → List Change → Type 0
-EachFollows history [] = Unit {0}
-EachFollows history (newest ∷ before) = FollowsOn history newest.rid.page × EachFollows history before
+abbrev pub EachFollows : Format → History → List Change → Type 0
+EachFollows format history [] = Unit {0}
+EachFollows format history (newest ∷ before) = FollowsOn format history newest.rid.page × EachFollows format history before
 
 -- of these changes one on the page is of this transaction, or none is on the page
 abbrev pub IsSomeOn : ℕ → List Change → Option ℕ → Type 0

@@ -3,14 +3,14 @@
 ghost use Rattle.std.specs.Prelude.{◌≡◌, List, ◌∷◌, reverse, IfOk, MatchBool};
 ghost use Rattle.rm_history.specs.Acts.{Change as Changes, acts_of};
 ghost use Rattle.rm_history.specs.Pending.{pending_of};
-ghost use Rattle.rm_history.specs.Rules.{IsPendingOn, EntriesFollow};
+ghost use Rattle.rm_history.specs.Legal.{IsPendingOn, EntriesFollow};
 ghost use Rattle.rm_audit.specs.Parts.{IsSomeOn, FollowsOn, EachFollows};
 
 use crate::changes::Change;
 use crate::pages::{category_now, entry};
 use crate::pending::{all_pending, pending_changes};
 use rm_record::Logged;
-use rm_types::{NoMemory, TxnId};
+use rm_types::{Format, NoMemory, TxnId};
 use std::alloc::Global;
 
 // A transaction with a change on the page, with one change more above the others.
@@ -48,10 +48,10 @@ fn is_pending_on(alloc: Global, log: &[Logged], page: u32) -> Result<bool, NoMem
 }
 
 // Whether a page's entry is its category, or it has a pending change.
-fn follows(alloc: Global, log: &[Logged], page: u32) -> Result<bool, NoMemory>
-    ensures { IfOk result (λ follows. MatchBool follows (FollowsOn (acts_of log.now) page) (FollowsOn (acts_of log.now) page → ⊥)) }
+fn follows(alloc: Global, format: Format, log: &[Logged], page: u32) -> Result<bool, NoMemory>
+    ensures { IfOk result (λ follows. MatchBool follows (FollowsOn format (acts_of log.now) page) (FollowsOn format (acts_of log.now) page → ⊥)) }
 {
-    if entry(log, page) == category_now(alloc, log, page)? {
+    if entry(log, page) == category_now(alloc, format, log, page)? {
         return Ok(true);
     }
     is_pending_on(alloc, log, page)
@@ -59,11 +59,16 @@ fn follows(alloc: Global, log: &[Logged], page: u32) -> Result<bool, NoMemory>
 
 // Whether each page of these changes follows, the oldest first.
 #[tactic(auto, using(crate::proofs::Newest::reverse_more))]
-fn all_follow(alloc: Global, log: &[Logged], pending: &[Change]) -> Result<bool, NoMemory>
-    ensures { IfOk result (λ follow. MatchBool follow (EachFollows (acts_of log.now) (reverse pending.now)) (EntriesFollow (acts_of log.now) → ⊥)) }
+fn all_follow(
+    alloc: Global,
+    format: Format,
+    log: &[Logged],
+    pending: &[Change],
+) -> Result<bool, NoMemory>
+    ensures { IfOk result (λ follow. MatchBool follow (EachFollows format (acts_of log.now) (reverse pending.now)) (EntriesFollow format (acts_of log.now) → ⊥)) }
 {
     for change in pending {
-        if !follows(alloc, log, change.rid.page)? {
+        if !follows(alloc, format, log, change.rid.page)? {
             return Ok(false);
         }
     }
@@ -74,12 +79,13 @@ fn all_follow(alloc: Global, log: &[Logged], pending: &[Change]) -> Result<bool,
 /// `log` with it.
 pub(crate) fn each_follows(
     alloc: Global,
+    format: Format,
     before: &[Logged],
     log: &[Logged],
     txn: TxnId,
 ) -> Result<bool, NoMemory>
-    ensures { IfOk result (λ follow. MatchBool follow (EachFollows (acts_of log.now) (pending_of (acts_of before.now) txn.0)) (EntriesFollow (acts_of log.now) → ⊥)) }
+    ensures { IfOk result (λ follow. MatchBool follow (EachFollows format (acts_of log.now) (pending_of (acts_of before.now) txn.0)) (EntriesFollow format (acts_of log.now) → ⊥)) }
 {
     let pending = pending_changes(alloc, before, txn)?;
-    all_follow(alloc, log, &pending)
+    all_follow(alloc, format, log, &pending)
 }

@@ -8,6 +8,7 @@
 mod audits;
 mod changes;
 mod entries;
+mod inventory;
 mod listings;
 mod needs;
 mod pages;

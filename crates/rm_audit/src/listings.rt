@@ -1,12 +1,13 @@
 //! Whether a checkpoint may come behind a log.
 
 ghost use Rattle.std.specs.Prelude.{◌≡◌, ℕ, ◌<◌, List, IsTrue, ◌↔◌, IfOk, MatchOption, MatchBool};
+ghost use Rattle.rm_types.specs.declared.formats.Format.{Format as Formats};
 ghost use Rattle.rm_types.specs.declared.places.Place.{Place as Places};
 ghost use Rattle.rm_history.specs.Acts.{lists, acts_of};
 ghost use Rattle.rm_history.specs.Pending.{last_of, pending_of, IsFinished, HasRecord};
 ghost use Rattle.rm_history.specs.Rules.{IsIn, MayList};
 ghost use Rattle.rm_audit.specs.Parts.{IsNamed};
-ghost use Rattle.rm_audit.specs.Verdicts.{IsFound};
+ghost use Rattle.rm_audit.specs.Verdicts.{coming_of, IsFound};
 
 use crate::rules::last_lsn;
 use crate::transactions::{has_record, is_finished, txn_of};
@@ -101,14 +102,15 @@ fn misplaced(alloc: Global, log: &[Logged], losers: &[Place]) -> Result<Option<P
     Ok(None)
 }
 
-/// What a checkpoint breaks behind a log.
+/// What a checkpoint breaks first of what may come behind a log.
 pub(crate) fn check_listing(
     alloc: Global,
     log: &[Logged],
     next: u64,
     losers: &[Place],
 ) -> Result<Option<Illegal>, NoMemory>
-    ensures { (lsn : ℕ) (pages blocks : List Places) → IfOk result (IsFound (MayList (acts_of log.now) (record { lsn = lsn; next = next; losers = losers.now; pages = pages; blocks = blocks })) (acts_of log.now)
+    ensures { (format : Formats) (lsn : ℕ) (pages blocks : List Places) → IfOk result (IsFound format (MayList (acts_of log.now) (record { lsn = lsn; next = next; losers = losers.now; pages = pages; blocks = blocks }))
+        (coming_of (lists (record { lsn = lsn; next = next; losers = losers.now; pages = pages; blocks = blocks }))) (acts_of log.now)
         (lists (record { lsn = lsn; next = next; losers = losers.now; pages = pages; blocks = blocks }))) }
 {
     if not_below(log, next).is_some() {

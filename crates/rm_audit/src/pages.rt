@@ -1,14 +1,14 @@
 //! What a log says of a page.
 
-ghost use Rattle.std.specs.Prelude.{◌≡◌, ℕ, ◌∷◌, IfOk, OnOk};
-ghost use Rattle.rm_model.specs.Pages.{used as used_by, set_slot};
+ghost use Rattle.std.specs.Prelude.{◌≡◌, ◌∷◌, IfOk, OnOk};
+ghost use Rattle.rm_model.specs.Pages.{used as used_by};
 ghost use Rattle.rm_history.specs.Acts.{History, act_of, acts_of};
 ghost use Rattle.rm_history.specs.Contents.{page_of, version_of, category_of, entry_of};
+ghost use Rattle.rm_history.specs.Legal.{category_with as category_with_slot};
 
 use crate::slots::{bytes_in, copy_of, set};
-use rm_history::CATEGORY_BYTES;
 use rm_record::{LogRecord, Logged};
-use rm_types::{Lsn, MAX_CATEGORY, NoMemory, Rid, SLOT_ENTRY, Slot};
+use rm_types::{Format, Lsn, NoMemory, Rid, SLOT_ENTRY, Slot};
 use std::alloc::Global;
 
 // Brings the slots of a page behind one record more.
@@ -101,31 +101,37 @@ pub(crate) fn used(slots: &[Slot]) -> u128
     used
 }
 
-/// How full a page with these slots is, in four steps.
-pub(crate) fn category(slots: &[Slot]) -> u8
-    ensures { result ≡ category_of slots.now }
+/// How full a page with these slots is, in the steps of the format.
+pub(crate) fn category(format: Format, slots: &[Slot]) -> u8
+    ensures { result ≡ category_of format slots.now }
 {
-    let steps = used(slots) / CATEGORY_BYTES as u128;
-    steps.min(MAX_CATEGORY as u128) as u8
+    let steps = used(slots) / format.category_bytes() as u128;
+    steps.min(format.greatest_category() as u128) as u8
 }
 
 /// The category of a page.
-pub(crate) fn category_now(alloc: Global, log: &[Logged], number: u32) -> Result<u8, NoMemory>
-    ensures { IfOk result (λ category. category ≡ category_of (page_of (acts_of log.now) number)) }
+pub(crate) fn category_now(
+    alloc: Global,
+    format: Format,
+    log: &[Logged],
+    number: u32,
+) -> Result<u8, NoMemory>
+    ensures { IfOk result (λ category. category ≡ category_of format (page_of (acts_of log.now) number)) }
 {
-    Ok(category(&page(alloc, log, number)?))
+    Ok(category(format, &page(alloc, log, number)?))
 }
 
 /// The category that a page has with this back in a slot.
 pub(crate) fn category_with(
     alloc: Global,
+    format: Format,
     log: &[Logged],
     rid: Rid,
     back: &Slot,
 ) -> Result<u8, NoMemory>
-    ensures { IfOk result (λ category. category ≡ category_of (set_slot (page_of (acts_of log.now) rid.page) rid.slot back.now)) }
+    ensures { IfOk result (λ category. category ≡ category_with_slot format (acts_of log.now) rid back.now) }
 {
     let mut slots = page(alloc, log, rid.page)?;
     set(&mut slots, rid.slot, copy_of(back)?)?;
-    Ok(category(&slots))
+    Ok(category(format, &slots))
 }

@@ -1,14 +1,15 @@
 //! Whether a record of a transaction may come behind a log.
 
 ghost use Rattle.std.specs.Prelude.{◌≡◌, ℕ, IfOk};
+ghost use Rattle.rm_types.specs.declared.formats.Format.{Format as Formats};
 ghost use Rattle.rm_history.specs.Acts.{changes, undoes, enters, commits, ends, acts_of};
 ghost use Rattle.rm_history.specs.Pending.{last_of, pending_of, IsFinished};
 ghost use Rattle.rm_history.specs.Rules.{MayChange, MayUndo, MayEnter, MayEnd};
-ghost use Rattle.rm_audit.specs.Verdicts.{IsFound};
+ghost use Rattle.rm_audit.specs.Verdicts.{coming_of, IsFound};
 
 use crate::changes::Change;
 use crate::needs::need;
-use crate::pages::{category_now, category_with, entry, page};
+use crate::pages::page;
 use crate::pending::last_pending;
 use crate::slots::{are_same, holds};
 use crate::transactions::{is_finished, open_other};
@@ -27,13 +28,13 @@ pub(crate) fn last_lsn(alloc: Global, log: &[Logged], txn: TxnId) -> Result<Lsn,
     }
 }
 
-/// What a change breaks behind a log.
+/// What a change breaks first of what may come behind a log.
 pub(crate) fn check_change(
     alloc: Global,
     log: &[Logged],
     change: &Change,
 ) -> Result<Option<Illegal>, NoMemory>
-    ensures { IfOk result (IsFound (MayChange (acts_of log.now) change.now) (acts_of log.now) (changes change.now)) }
+    ensures { (format : Formats) → IfOk result (IsFound format (MayChange (acts_of log.now) change.now) (coming_of (changes change.now)) (acts_of log.now) (changes change.now)) }
 {
     let txn = change.txn;
     let rid = change.rid;
@@ -55,7 +56,7 @@ pub(crate) fn check_change(
     Ok(None)
 }
 
-/// What a compensation breaks behind a log.
+/// What a compensation breaks first of what may come behind a log.
 pub(crate) fn check_undo(
     alloc: Global,
     log: &[Logged],
@@ -65,7 +66,8 @@ pub(crate) fn check_undo(
     rid: Rid,
     back: &Slot,
 ) -> Result<Option<Illegal>, NoMemory>
-    ensures { (lsn : ℕ) → IfOk result (IsFound (MayUndo (acts_of log.now) (record { lsn = lsn; txn = txn.0; undone = undone.0; next = next.0; rid = rid; back = back.now })) (acts_of log.now)
+    ensures { (format : Formats) (lsn : ℕ) → IfOk result (IsFound format (MayUndo (acts_of log.now) (record { lsn = lsn; txn = txn.0; undone = undone.0; next = next.0; rid = rid; back = back.now }))
+        (coming_of (undoes (record { lsn = lsn; txn = txn.0; undone = undone.0; next = next.0; rid = rid; back = back.now }))) (acts_of log.now)
         (undoes (record { lsn = lsn; txn = txn.0; undone = undone.0; next = next.0; rid = rid; back = back.now }))) }
 {
     if is_finished(log, txn) {
@@ -86,21 +88,18 @@ pub(crate) fn check_undo(
     if !are_same(back, &last.before) {
         return Ok(Some(Illegal::Back));
     }
-    if entry(log, rid.page) != category_with(alloc, log, rid, back)? {
-        return Ok(Some(Illegal::Entry));
-    }
     Ok(None)
 }
 
-/// What an inventory record breaks behind a log.
+/// What an inventory record breaks first of what may come behind a log.
 pub(crate) fn check_entry(
     alloc: Global,
     log: &[Logged],
     txn: TxnId,
     number: u32,
-    category: u8,
 ) -> Result<Option<Illegal>, NoMemory>
-    ensures { (lsn : ℕ) → IfOk result (IsFound (MayEnter (acts_of log.now) (record { lsn = lsn; txn = txn.0; page = number; category = category })) (acts_of log.now)
+    ensures { (format : Formats) (lsn category : ℕ) → IfOk result (IsFound format (MayEnter (acts_of log.now) (record { lsn = lsn; txn = txn.0; page = number; category = category }))
+        (coming_of (enters (record { lsn = lsn; txn = txn.0; page = number; category = category }))) (acts_of log.now)
         (enters (record { lsn = lsn; txn = txn.0; page = number; category = category }))) }
 {
     if is_finished(log, txn) {
@@ -112,21 +111,12 @@ pub(crate) fn check_entry(
     if last.rid.page != number {
         return Ok(Some(Illegal::NoChange));
     }
-    if category == entry(log, number) {
-        return Ok(Some(Illegal::SameCategory));
-    }
-    if category == category_now(alloc, log, number)? {
-        return Ok(None);
-    }
-    if category == category_with(alloc, log, last.rid, &last.before)? {
-        return Ok(None);
-    }
-    Ok(Some(Illegal::WrongCategory))
+    Ok(None)
 }
 
-/// What a commit breaks behind a log.
+/// What a commit breaks of what may come behind a log.
 pub(crate) fn check_commit(log: &[Logged], txn: TxnId) -> Option<Illegal>
-    ensures { (lsn : ℕ) → IsFound (IsFinished (acts_of log.now) txn.0 → ⊥) (acts_of log.now) (commits (record { lsn = lsn; txn = txn.0 })) result }
+    ensures { (format : Formats) (lsn : ℕ) → IsFound format (IsFinished (acts_of log.now) txn.0 → ⊥) (coming_of (commits (record { lsn = lsn; txn = txn.0 }))) (acts_of log.now) (commits (record { lsn = lsn; txn = txn.0 })) result }
 {
     if is_finished(log, txn) {
         Some(Illegal::Finished)
@@ -135,13 +125,13 @@ pub(crate) fn check_commit(log: &[Logged], txn: TxnId) -> Option<Illegal>
     }
 }
 
-/// What an end breaks behind a log.
+/// What an end breaks first of what may come behind a log.
 pub(crate) fn check_end(
     alloc: Global,
     log: &[Logged],
     txn: TxnId,
 ) -> Result<Option<Illegal>, NoMemory>
-    ensures { (lsn : ℕ) → IfOk result (IsFound (MayEnd (acts_of log.now) (record { lsn = lsn; txn = txn.0 })) (acts_of log.now) (ends (record { lsn = lsn; txn = txn.0 }))) }
+    ensures { (format : Formats) (lsn : ℕ) → IfOk result (IsFound format (MayEnd (acts_of log.now) (record { lsn = lsn; txn = txn.0 })) (coming_of (ends (record { lsn = lsn; txn = txn.0 }))) (acts_of log.now) (ends (record { lsn = lsn; txn = txn.0 }))) }
 {
     if is_finished(log, txn) {
         return Ok(Some(Illegal::Finished));

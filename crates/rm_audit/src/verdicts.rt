@@ -2,7 +2,7 @@
 
 use rm_types::Lsn;
 
-/// Which condition of a legal log a record breaks.
+/// Which condition of a legal log a record breaks, in the order in which they are looked at.
 #[derive(Clone, Copy, Debug, PartialEq, Eq)]
 pub enum Illegal {
     /// Its LSN is not above that of the record before it.
@@ -25,14 +25,8 @@ pub enum Illegal {
     Next,
     /// A compensation that puts back something else than what the slot held before that change.
     Back,
-    /// A compensation behind which the page's entry is not its category.
-    Entry,
     /// An inventory record of a transaction whose last pending change is not on the page: it may have none.
     NoChange,
-    /// An inventory record with the category that the inventory has.
-    SameCategory,
-    /// An inventory record with a category that is neither the page's nor what that is with the last change undone.
-    WrongCategory,
     /// The end of a transaction that has a pending change.
     StillPending,
     /// A checkpoint whose next id is not above that of each transaction with a record.
@@ -45,6 +39,12 @@ pub enum Illegal {
     LoserPlace,
     /// Behind the record a page lacks room for what it holds and what undo needs there.
     NoRoom,
+    /// A compensation behind which the page's entry is not its category.
+    Entry,
+    /// An inventory record with the category that the inventory has.
+    SameCategory,
+    /// An inventory record with a category that is neither the page's nor what that is with the last change undone.
+    WrongCategory,
     /// Behind the record a page has another category than its entry, and no pending change.
     EntryBehind,
 }

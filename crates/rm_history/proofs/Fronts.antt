@@ -9,13 +9,13 @@ fronts_are_in_order (act ∷ newest) before ordered = fronts_are_in_order newest
 
 -- what stands before the newest records is legal
 pub legal_fronts : LegalFronts
-legal_fronts [] before legal = legal
-legal_fronts (act ∷ newest) before legal = legal_fronts newest before legal.0
+legal_fronts format [] before legal = legal
+legal_fronts format (act ∷ newest) before legal = legal_fronts format newest before legal.0
 
 -- a legal history is in order
 pub legal_is_in_order : LegalIsInOrder
-legal_is_in_order [] legal = tt
-legal_is_in_order (act ∷ before) legal = (legal_is_in_order before legal.0, legal.1)
+legal_is_in_order format [] legal = tt
+legal_is_in_order format (act ∷ before) legal = (legal_is_in_order format before legal.0, legal.1)
 
 pub empty_is_legal : EmptyIsLegal
-empty_is_legal = tt
+empty_is_legal format = tt

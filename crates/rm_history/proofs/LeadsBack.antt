@@ -8,7 +8,7 @@ use Rattle.rm_model.specs.Object.{Rows, is_same_place}
 use Rattle.rm_history.specs.Acts.{Change}
 use Rattle.rm_history.specs.Pending.{applied}
 use Rattle.rm_history.specs.Laws.{IsChanged}
-use Rattle.rm_history.proofs.Settled.{same_place, is_same_place-refl}
+use Rattle.rm_history.proofs.RowIds.{same_place, is_same_place-refl}
 use Rattle.rm_history.proofs.PendingSteps.{cases_rid}
 
 -- The newest of the changes on the row id left what it holds, and found what the next one left; the oldest found the row, as

@@ -1,6 +1,6 @@
 pub mod Behind
 pub mod Told
-pub mod Settled
+pub mod RowIds
 pub mod Readings
 pub mod Damages
 pub mod Fronts

@@ -1,14 +1,17 @@
 -- A transaction's last pending change can always be undone: its page has the room.
 use Rattle.std.proofs.Common.{◌≡◌, inl, inr, ℕ, zero, suc, ◌+◌, ◌<◌, ◌≤◌, List, [], ◌∷◌, length, refl, sym, ap, subst, ◌∙◌, arith}
 use Rattle.std.proofs.lemmas.Bool.{cases_eq, eq-eqb, ne_eqb}
+use Rattle.rm_types.specs.declared.formats.Format.{Format}
+use Rattle.rm_types.specs.declared.formats.Format.TheVariants.{One}
 use Rattle.rm_model.specs.Pages.{used, row_length, set_slot}
 use Rattle.rm_history.specs.Acts.{Change, Undo, History, undoes, enters, newest_lsn}
 use Rattle.rm_history.specs.Contents.{slot_at, page_of, category_of, entry_of}
 use Rattle.rm_history.specs.Pending.{pending_of, rows_of_log, IsFinished}
 use Rattle.rm_history.specs.Needs.{on_page, need_of, sum_below, Fits}
-use Rattle.rm_history.specs.Rules.{MayUndo, IsPendingOn, EntriesFollow, Follows, IsInOrder, IsLegal}
+use Rattle.rm_history.specs.Rules.{MayUndo, Follows, IsInOrder}
+use Rattle.rm_history.specs.Legal.{IsKept, IsPendingOn, EntriesFollow, IsLegal}
 use Rattle.rm_history.specs.Undoing.{category_after, entry_for, undo_for, Settles, Undone}
-use Rattle.rm_history.specs.Laws.{IsUndone, NoUndoLacksRoom}
+use Rattle.rm_history.specs.Laws.{IsUndone, UndoesAreInOrder, NoUndoLacksRoom}
 use Rattle.rm_history.proofs.NeedSums.{room_kept, used-inside, on_page-here, on_page-elsewhere, pending_of-undo, need_of-undo, need_of-undo_elsewhere, need_of-undo_other}
 use Rattle.rm_history.proofs.Fronts.{legal_is_in_order}
 use Rattle.rm_history.proofs.PendingSteps.{pending-undo_other}
@@ -27,9 +30,9 @@ fits_in_order [] ordered = λ page n. omega (arith, sum_below-zero n)
 fits_in_order (act ∷ before) ordered = ordered.1.fits
 
 -- the inventory of a legal history follows
-pub entries_follow : (history : History) → IsLegal history → EntriesFollow history
-entries_follow [] legal = λ page. inl refl
-entries_follow (act ∷ before) legal = legal.2
+pub entries_follow : (format : Format) (history : History) → IsLegal format history → EntriesFollow format history
+entries_follow One [] legal = λ page. inl refl
+entries_follow format (act ∷ before) legal = legal.2.follow
 
 -- what a transaction has pending is pending on its page
 is_pending_on : (history : History) (txn : ℕ) (last : Change) (rest : List Change) → pending_of history txn ≡ last ∷ rest → IsPendingOn history last.rid.page
@@ -41,41 +44,53 @@ is_pending_on history txn last rest is =
 -- ---- the page's entry
 
 -- behind an entry of its page's category the entries of the other pages are as before
-entries_follow_entry : (before : History) (last : Change) (rest : List Change) (lsn : ℕ) → pending_of before last.txn ≡ last ∷ rest → EntriesFollow before
-    → EntriesFollow (enters (entry_for lsn before last) ∷ before)
-entries_follow_entry before last rest lsn is follow page = elim (cases_eq last.rid.page page) [
+entries_follow_entry : (format : Format) (before : History) (last : Change) (rest : List Change) (lsn : ℕ) → pending_of before last.txn ≡ last ∷ rest → EntriesFollow format before
+    → EntriesFollow format (enters (entry_for format lsn before last) ∷ before)
+entries_follow_entry format before last rest lsn is follow page = elim (cases_eq last.rid.page page) [
   | inl here ↦ inr (subst (λ (p : ℕ). IsPendingOn before p) here (is_pending_on before last.txn last rest is))
   | inr other ↦ rw (ne_eqb last.rid.page page other) (follow page)
 ]
 
 -- the history in which the page of the change has the entry that undoing the change wants
-record IsEntered (before : History) (last : Change) (new : History) : Type 0 where
-  legal : IsLegal new
+record HasEntry (format : Format) (before : History) (last : Change) (new : History) : Type 0 where
+  legal : IsLegal format new
   pending : (txn : ℕ) → pending_of new txn ≡ pending_of before txn
   finished : (txn : ℕ) → IsFinished new txn → IsFinished before txn
   rows : rows_of_log new ≡ rows_of_log before
-  entered : entry_of new last.rid.page ≡ category_after new last
+  entered : entry_of new last.rid.page ≡ category_after format new last
 
--- the record that enters it may come
-entry_comes : (before : History) (last : Change) (rest : List Change) (lsn : ℕ) → IsLegal before → (IsFinished before last.txn → ⊥) → pending_of before last.txn ≡ last ∷ rest
-    → (entry_of before last.rid.page ≡ category_after before last → ⊥) → newest_lsn before < lsn → Follows before (enters (entry_for lsn before last))
-entry_comes before last rest lsn legal unfinished is other above = record {
+-- the record that enters it may come,
+entry_comes : (format : Format) (before : History) (last : Change) (rest : List Change) (lsn : ℕ) → IsInOrder before → (IsFinished before last.txn → ⊥) → pending_of before last.txn ≡ last ∷ rest
+    → newest_lsn before < lsn → Follows before (enters (entry_for format lsn before last))
+entry_comes format before last rest lsn ordered unfinished is above = record {
   above = above;
-  may_come = record { unfinished = unfinished; last = last; is_last = (rest, is); page_is = refl; differs = λ same. other (sym same); right = inr refl };
-  fits = fits_in_order before (legal_is_in_order before legal);
+  may_come = record { unfinished = unfinished; last = last; is_last = (rest, is); page_is = refl };
+  fits = fits_in_order before ordered;
+}
+
+-- and keeps the inventory
+entry_kept : (format : Format) (before : History) (last : Change) (rest : List Change) (lsn : ℕ) → EntriesFollow format before → pending_of before last.txn ≡ last ∷ rest
+    → (entry_of before last.rid.page ≡ category_after format before last → ⊥) → IsKept format before (enters (entry_for format lsn before last))
+entry_kept format before last rest lsn follow is wrong = record {
+  entered = record { differs = λ same. wrong (sym same); right = inr (last, (rest, is), refl) };
+  follow = entries_follow_entry format before last rest lsn is follow;
 }
 
 -- so settling gives that history
-entered_by : (before settled : History) (last : Change) (rest : List Change) → IsLegal before → (IsFinished before last.txn → ⊥) → pending_of before last.txn ≡ last ∷ rest
-    → Settles before last settled → IsEntered before last settled
-entered_by before settled last rest legal unfinished is (inl stays) =
-    subst (λ (h : History). IsEntered before last h) (sym stays.1)
+entered_by : (format : Format) (before settled : History) (last : Change) (rest : List Change) → IsLegal format before → (IsFinished before last.txn → ⊥) → pending_of before last.txn ≡ last ∷ rest
+    → Settles format before last settled → HasEntry format before last settled
+entered_by format before settled last rest legal unfinished is (inl stays) =
+    subst (λ (h : History). HasEntry format before last h) (sym stays.1)
     (record { legal = legal; pending = λ txn. refl; finished = λ txn f. f; rows = refl; entered = stays.0 })
-entered_by before settled last rest legal unfinished is (inr differs) =
+entered_by format before settled last rest legal unfinished is (inr differs) =
     let lsn : ℕ = differs.1.0 in
-    subst (λ (h : History). IsEntered before last h) (sym differs.1.2)
+    subst (λ (h : History). HasEntry format before last h) (sym differs.1.2)
     (record {
-      legal = (legal, entry_comes before last rest lsn legal unfinished is differs.0 differs.1.1, entries_follow_entry before last rest lsn is (entries_follow before legal));
+      legal = (
+        legal,
+        entry_comes format before last rest lsn (legal_is_in_order format before legal) unfinished is differs.1.1,
+        entry_kept format before last rest lsn (entries_follow format before legal) is differs.0,
+      );
       pending = λ txn. refl;
       finished = λ txn f. f;
       rows = refl;
@@ -128,11 +143,11 @@ still_pending before last rest lsn page is other pending =
     (pending.0, λ none. pending.1 (sym same ∙ none))
 
 -- behind the compensation its page's entry is right, and all others follow as before
-entries_follow_undo : (before : History) (last : Change) (rest : List Change) (lsn : ℕ) → pending_of before last.txn ≡ last ∷ rest
-    → entry_of before last.rid.page ≡ category_after before last → EntriesFollow before → EntriesFollow (undoes (undo_for lsn last) ∷ before)
-entries_follow_undo before last rest lsn is entered follow page = elim (cases_eq last.rid.page page) [
+entries_follow_undo : (format : Format) (before : History) (last : Change) (rest : List Change) (lsn : ℕ) → pending_of before last.txn ≡ last ∷ rest
+    → entry_of before last.rid.page ≡ category_after format before last → EntriesFollow format before → EntriesFollow format (undoes (undo_for lsn last) ∷ before)
+entries_follow_undo format before last rest lsn is entered follow page = elim (cases_eq last.rid.page page) [
   | inl here ↦ inl (rw (eq-eqb last.rid.page page here)
-      (subst (λ (p : ℕ). entry_of before p ≡ category_of (set_slot (page_of before p) last.rid.slot last.before)) here entered))
+      (subst (λ (p : ℕ). entry_of before p ≡ category_of format (set_slot (page_of before p) last.rid.slot last.before)) here entered))
   | inr other ↦ elim (follow page) [
     | inl right ↦ inl (rw (ne_eqb last.rid.page page other) right)
     | inr pending ↦ inr (still_pending before last rest lsn page is other pending)
@@ -141,8 +156,8 @@ entries_follow_undo before last rest lsn is entered follow page = elim (cases_eq
 
 -- the compensation may come
 compensation_comes : (before : History) (last : Change) (rest : List Change) (lsn : ℕ) → (IsFinished before last.txn → ⊥) → pending_of before last.txn ≡ last ∷ rest
-    → entry_of before last.rid.page ≡ category_after before last → MayUndo before (undo_for lsn last)
-compensation_comes before last rest lsn unfinished is entered = record {
+    → MayUndo before (undo_for lsn last)
+compensation_comes before last rest lsn unfinished is = record {
   unfinished = unfinished;
   last = last;
   is_last = (rest, is);
@@ -150,24 +165,32 @@ compensation_comes before last rest lsn unfinished is entered = record {
   rid_is = refl;
   next_is = refl;
   back_is = refl;
-  entered = entered;
 }
 
 -- ---- the theorem
 
--- of a change whose slot stands, undone in a history in which its page has the right entry
-undone_by : (before : History) (last : Change) (rest : List Change) (lsn : ℕ) → IsLegal before → (IsFinished before last.txn → ⊥) → pending_of before last.txn ≡ last ∷ rest
-    → Stands before last → entry_of before last.rid.page ≡ category_after before last → newest_lsn before < lsn
-    → IsUndone before last.txn rest (undoes (undo_for lsn last) ∷ before)
-undone_by before last rest lsn legal unfinished is stands entered above = record {
+-- in a history in order each transaction's newest pending change stands
+newest_stands : (history : History) → IsInOrder history → (txn : ℕ) (last : Change) (rest : List Change) → pending_of history txn ≡ last ∷ rest → Stands history last
+newest_stands history ordered txn last rest is = record { inside = last_is_inside history txn last rest is; holds = last_is_held history ordered txn last rest is }
+
+-- so its compensation may stand behind the history
+undo_follows : (before : History) (last : Change) (rest : List Change) (lsn : ℕ) → IsInOrder before → (IsFinished before last.txn → ⊥) → pending_of before last.txn ≡ last ∷ rest
+    → newest_lsn before < lsn → Follows before (undoes (undo_for lsn last))
+undo_follows before last rest lsn ordered unfinished is above = record {
+  above = above;
+  may_come = compensation_comes before last rest lsn unfinished is;
+  fits = undo_fits before last rest lsn is (newest_stands before ordered last.txn last rest is) (fits_in_order before ordered);
+}
+
+-- undone in a history in which its page has the right entry
+undone_by : (format : Format) (before : History) (last : Change) (rest : List Change) (lsn : ℕ) → IsLegal format before → (IsFinished before last.txn → ⊥) → pending_of before last.txn ≡ last ∷ rest
+    → entry_of before last.rid.page ≡ category_after format before last → newest_lsn before < lsn
+    → IsUndone format before last.txn rest (undoes (undo_for lsn last) ∷ before)
+undone_by format before last rest lsn legal unfinished is entered above = record {
   legal = (
     legal,
-    record {
-      above = above;
-      may_come = compensation_comes before last rest lsn unfinished is entered;
-      fits = undo_fits before last rest lsn is stands (fits_in_order before (legal_is_in_order before legal));
-    },
-    entries_follow_undo before last rest lsn is entered (entries_follow before legal),
+    undo_follows before last rest lsn (legal_is_in_order format before legal) unfinished is above,
+    record { entered = entered; follow = entries_follow_undo format before last rest lsn is entered (entries_follow format before legal) },
   );
   pending = pending_of-undo before (undo_for lsn last) last rest is;
   others = λ other differs. pending-undo_other (undo_for lsn last) before other (λ same. differs (sym same));
@@ -175,21 +198,16 @@ undone_by before last rest lsn legal unfinished is stands entered above = record
   rows = refl;
 }
 
--- in a history in order each transaction's newest pending change stands
-newest_stands : (history : History) → IsInOrder history → (txn : ℕ) (last : Change) (rest : List Change) → pending_of history txn ≡ last ∷ rest → Stands history last
-newest_stands history ordered txn last rest is = record { inside = last_is_inside history txn last rest is; holds = last_is_held history ordered txn last rest is }
-
 -- a transaction's last pending change, undone with the entry of its page before it
-undone_mine : (before new : History) (last : Change) (rest : List Change) → IsLegal before → (IsFinished before last.txn → ⊥) → pending_of before last.txn ≡ last ∷ rest
-    → Undone before last new → IsUndone before last.txn rest new
-undone_mine before new last rest legal unfinished is undone =
+undone_mine : (format : Format) (before new : History) (last : Change) (rest : List Change) → IsLegal format before → (IsFinished before last.txn → ⊥) → pending_of before last.txn ≡ last ∷ rest
+    → Undone format before last new → IsUndone format before last.txn rest new
+undone_mine format before new last rest legal unfinished is undone =
     let mid : History = undone.settled in
-    let there : IsEntered before last mid = entered_by before mid last rest legal unfinished is undone.settles in
+    let there : HasEntry format before last mid = entered_by format before mid last rest legal unfinished is undone.settles in
     let is_mid : pending_of mid last.txn ≡ last ∷ rest = there.pending last.txn ∙ is in
-    let done : IsUndone mid last.txn rest (undoes (undo_for undone.lsn last) ∷ mid) =
-    undone_by mid last rest undone.lsn there.legal (λ f. unfinished (there.finished last.txn f)) is_mid
-    (newest_stands mid (legal_is_in_order mid there.legal) last.txn last rest is_mid) there.entered undone.above in
-    subst (λ (h : History). IsUndone before last.txn rest h) (sym undone.new_is)
+    let done : IsUndone format mid last.txn rest (undoes (undo_for undone.lsn last) ∷ mid) =
+    undone_by format mid last rest undone.lsn there.legal (λ f. unfinished (there.finished last.txn f)) is_mid there.entered undone.above in
+    subst (λ (h : History). IsUndone format before last.txn rest h) (sym undone.new_is)
     (record {
       legal = done.legal;
       pending = done.pending;
@@ -198,9 +216,15 @@ undone_mine before new last rest legal unfinished is undone =
       rows = done.rows ∙ there.rows;
     })
 
+-- an undo is in order
+pub undoes_are_in_order : UndoesAreInOrder
+undoes_are_in_order before txn lsn last rest ordered unfinished is above =
+    let mine : last.txn ≡ txn = last_is_of before txn last rest is in
+    (ordered, undo_follows before last rest lsn ordered (λ f. unfinished (subst (λ (t : ℕ). IsFinished before t) mine f)) (ap (pending_of before) mine ∙ is) above)
+
 -- no undo lacks room
 pub no_undo_lacks_room : NoUndoLacksRoom
-no_undo_lacks_room before new txn last rest legal unfinished is undone =
+no_undo_lacks_room format before new txn last rest legal unfinished is undone =
     let mine : last.txn ≡ txn = last_is_of before txn last rest is in
-    subst (λ (t : ℕ). IsUndone before t rest new) mine
-    (undone_mine before new last rest legal (λ f. unfinished (subst (λ (t : ℕ). IsFinished before t) mine f)) (ap (pending_of before) mine ∙ is) undone)
+    subst (λ (t : ℕ). IsUndone format before t rest new) mine
+    (undone_mine format before new last rest legal (λ f. unfinished (subst (λ (t : ℕ). IsFinished before t) mine f)) (ap (pending_of before) mine ∙ is) undone)

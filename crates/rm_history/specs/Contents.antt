@@ -2,10 +2,10 @@
 use Rattle.std.specs.Prelude.{ℕ, ◌==◌, ◌/◌, if◌then◌else◌, List, [], ◌∷◌, min, slice_index_or, Option, Some, None}
 use Rattle.rm_types.specs.declared.slots.Slot.{Slot}
 use Rattle.rm_types.specs.declared.slots.Slot.TheVariants.{Vacant, Row}
-use Rattle.rm_types.specs.declared.numbers.TheConstants.{MAX_CATEGORY}
-use Rattle.rm_model.specs.Pages.{used, set_slot}
+use Rattle.rm_types.specs.declared.formats.Format.{Format}
 use Rattle.rm_types.specs.declared.numbers.TheConstants.{BLOCK_PAGES}
-use Rattle.rm_history.specs.declared.TheConstants.{CATEGORY_BYTES}
+use Rattle.rm_types.specs.Formats.{category_bytes, greatest_category}
+use Rattle.rm_model.specs.Pages.{used, set_slot}
 use Rattle.rm_history.specs.Acts.{History, changes, undoes, enters, commits, ends, lists}
 
 -- what a slot holds: nothing past the directory
@@ -37,9 +37,9 @@ version_of (commits f ∷ before) page = version_of before page
 version_of (ends f ∷ before) page = version_of before page
 version_of (lists l ∷ before) page = version_of before page
 
--- how full a page with these slots is, in four steps
-abbrev pub category_of : List Slot → ℕ
-category_of slots = min MAX_CATEGORY (used slots / CATEGORY_BYTES)
+-- how full a page with these slots is, in the steps of the volume's format
+abbrev pub category_of : Format → List Slot → ℕ
+category_of format slots = min (greatest_category format) (used slots / category_bytes format)
 
 -- the category that the inventory has for the page, 0 before the first
 abbrev pub entry_of : History → ℕ → ℕ

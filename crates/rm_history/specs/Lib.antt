@@ -4,6 +4,7 @@ pub mod Contents
 pub mod Pending
 pub mod Needs
 pub mod Rules
+pub mod Legal
 pub mod Undoing
 pub mod Literal
 pub mod Laws

@@ -1,11 +1,10 @@
--- Which histories are legal.
+-- Which records may stand behind which, but for the inventory.
 use Rattle.std.specs.Prelude.{◌≡◌, ℕ, ◌<◌, List, [], ◌∷◌, ◌⊎◌}
 use Rattle.rm_types.specs.declared.places.Place.{Place}
-use Rattle.rm_model.specs.Pages.{set_slot}
 use Rattle.rm_history.specs.Acts.{Act, Change, Undo, Entry, Finish, Listing, History, changes, undoes, enters, commits, ends, lists, lsn_of, newest_lsn}
-use Rattle.rm_history.specs.Contents.{slot_at, page_of, category_of, entry_of}
+use Rattle.rm_history.specs.Contents.{slot_at, page_of}
 use Rattle.rm_history.specs.Pending.{pending_of, last_of, IsFinished, HasRecord, HasChange}
-use Rattle.rm_history.specs.Needs.{on_page, need_of, Fits}
+use Rattle.rm_history.specs.Needs.{need_of, Fits}
 
 -- a change may come now
 pub record MayChange (before : History) (c : Change) : Type 0 where
@@ -21,7 +20,7 @@ pub record MayChange (before : History) (c : Change) : Type 0 where
 abbrev pub IsLast : History → ℕ → Change → Type 0
 IsLast before txn last = (rest : List Change) × (pending_of before txn ≡ last ∷ rest)
 
--- The transaction's last pending change may be undone now, by this compensation, after which the page's entry is right.
+-- the transaction's last pending change may be undone now, by this compensation
 pub record MayUndo (before : History) (u : Undo) : Type 0 where
   pub unfinished : IsFinished before u.txn → ⊥
   pub last : Change
@@ -30,17 +29,13 @@ pub record MayUndo (before : History) (u : Undo) : Type 0 where
   pub rid_is : u.rid ≡ last.rid
   pub next_is : u.next ≡ last.under
   pub back_is : u.back ≡ last.before
-  pub entered : entry_of before u.rid.page ≡ category_of (set_slot (page_of before u.rid.page) u.rid.slot u.back)
 
--- A page's entry may be set now: it differs, and it is the category of the page, or what that is once the transaction's last
--- pending change is undone.
+-- a page's entry may be set now: the transaction's last pending change is on the page
 pub record MayEnter (before : History) (e : Entry) : Type 0 where
   pub unfinished : IsFinished before e.txn → ⊥
   pub last : Change
   pub is_last : IsLast before e.txn last
   pub page_is : last.rid.page ≡ e.page
-  pub differs : e.category ≡ entry_of before e.page → ⊥
-  pub right : (e.category ≡ category_of (page_of before e.page)) ⊎ (e.category ≡ category_of (set_slot (page_of before e.page) last.rid.slot last.before))
 
 -- a rolled back transaction may end now
 pub record MayEnd (before : History) (f : Finish) : Type 0 where
@@ -67,26 +62,13 @@ MayCome before (commits f) = IsFinished before f.txn → ⊥
 MayCome before (ends f) = MayEnd before f
 MayCome before (lists l) = MayList before l
 
--- some transaction has a pending change on the page
-abbrev pub IsPendingOn : History → ℕ → Type 0
-IsPendingOn history page = (txn : ℕ) × (on_page page (pending_of history txn) ≡ [] → ⊥)
-
--- each page whose entry is not its category has a pending change
-abbrev pub EntriesFollow : History → Type 0
-EntriesFollow history = (page : ℕ) → (entry_of history page ≡ category_of (page_of history page)) ⊎ IsPendingOn history page
-
 -- The record may stand behind these: its LSN is above theirs, it may come now, and with it each page has room.
 pub record Follows (before : History) (act : Act) : Type 0 where
   pub above : newest_lsn before < lsn_of act
   pub may_come : MayCome before act
   pub fits : Fits (act ∷ before)
 
--- Each record might stand where it does.
+-- Each record might stand where it does. Of the inventory this says nothing.
 abbrev pub IsInOrder : History → Type 0
 IsInOrder [] = Unit {0}
 IsInOrder (act ∷ before) = IsInOrder before × Follows before act
-
--- And behind each the inventory followed.
-abbrev pub IsLegal : History → Type 0
-IsLegal [] = Unit {0}
-IsLegal (act ∷ before) = IsLegal before × Follows before act × EntriesFollow (act ∷ before)

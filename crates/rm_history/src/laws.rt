@@ -1,6 +1,6 @@
 //! What holds of all histories: functions without code, whose contracts are laws.
 
-ghost use Rattle.rm_history.specs.Laws.{LogsAreOne, ActsTellRecords, NeedsGoOn, SettledWhenNothingIsPending, EmptyIsLegal, FrontsAreInOrder, LegalFronts, LegalIsInOrder, PendingIsChained, PendingIsOfOne, PagesHoldWhatIsPending, PagesHoldWhatIsCommitted, NoUndoLacksRoom, RollbacksAreLegal, RestartsAreLegal, RestartsAreThere, UndoBytesGoDown, NetIsPending, RowsAreOfWinners, NeedIsTheMost};
+ghost use Rattle.rm_history.specs.Laws.{LogsAreOne, ActsTellRecords, NeedsGoOn, UndoesAreInOrder, SettledWhenNothingIsPending, EmptyIsLegal, FrontsAreInOrder, LegalFronts, LegalIsInOrder, PendingIsChained, PendingIsOfOne, PagesHoldWhatIsPending, PagesHoldWhatIsCommitted, NoUndoLacksRoom, RollbacksAreLegal, RestartsAreLegal, RestartsAreThere, UndoBytesGoDown, NetIsPending, RowsAreOfWinners, NeedIsTheMost};
 
 /// An area has one log.
 pub fn an_area_has_one_log()
@@ -47,7 +47,12 @@ pub fn a_page_holds_what_is_committed()
     ensures { PagesHoldWhatIsCommitted }
 {}
 
-/// The undo of a transaction's last pending change is legal: its page has the room.
+/// The undo of a transaction's last pending change is in order: its page has the room. Of the inventory this says nothing.
+pub fn an_undo_is_in_order()
+    ensures { UndoesAreInOrder }
+{}
+
+/// The undo of a transaction's last pending change, with the page's entry settled before it, is legal: its page has the room.
 pub fn no_undo_lacks_room()
     ensures { NoUndoLacksRoom }
 {}

@@ -55,5 +55,5 @@ data_blocks_are_one area block lsn other slots others small other_small is other
 
 -- a block of the inventory has one LSN, and one category for each page that it describes
 pub inventory_blocks_are_one : InventoryBlocksAreOne
-inventory_blocks_are_one area block lsn other entries others small other_small is other_is =
+inventory_blocks_are_one format area block lsn other entries others small other_small is other_is =
     (lsn_once area _ lsn other small other_small is.version other_is.version, λ index inside. sym (is.each index inside) ∙ other_is.each index inside)

@@ -1,5 +1,6 @@
 -- The definitions of blocks, redo offsets, checkpoints and copies, on examples.
 use Rattle.std.proofs.Common.{◌≡◌, ℕ, ◌<◌, ◌≤◌, List, [], ◌∷◌, inl, inr, refl, arith, lit<, lit≤}
+use Rattle.rm_types.specs.declared.formats.Format.TheVariants.{One}
 use Rattle.rm_types.specs.declared.numbers.Rid.{Rid}
 use Rattle.rm_types.specs.declared.places.Place.{Place}
 use Rattle.rm_types.specs.declared.slots.Slot.{Slot}
@@ -64,7 +65,7 @@ empty : AreApart 100 (Row row) 100 (Row [])
 empty = inr (inl refl)
 
 -- the four entries of a byte, the first in its lowest bits
-four_entries : (entry_in 228 0 ≡ 0) × (entry_in 228 1 ≡ 1) × (entry_in 228 2 ≡ 2) × (entry_in 228 3 ≡ 3)
+four_entries : (entry_in One 228 0 ≡ 0) × (entry_in One 228 1 ≡ 1) × (entry_in One 228 2 ≡ 2) × (entry_in One 228 3 ≡ 3)
 four_entries = (refl, refl, refl, refl)
 
 -- the blocks of the inventory that so many pages want

@@ -3,6 +3,7 @@ use Rattle.std.proofs.Common.{◌≡◌, inl, ℕ, ◌+◌, ◌/◌, ◌%◌, �
 use Rattle.std.proofs.Math.Nat.{div-le_self}
 use Rattle.std.proofs.lemmas.List.{length-replicate, get_or-replicate}
 use Rattle.rm_types.specs.declared.areas.Area.TheVariants.{Data, Space}
+use Rattle.rm_types.specs.declared.formats.Format.TheVariants.{One}
 use Rattle.rm_outside.specs.Images.{Bytes, Image, Shows}
 use Rattle.rm_master.specs.Fields.{fresh_fields}
 use Rattle.rm_master.specs.Fresh.{IsZeroBelow, IsFresh}
@@ -12,7 +13,7 @@ use Rattle.rm_image.specs.Whole.{IsLogSound, IsSoundImage, HasPage, HasEntries, 
 use Rattle.rm_image.specs.Laws.{FreshIsWhole}
 
 -- no entry is in a byte of 0
-no_entry : (index : ℕ) → entry_in 0 index ≡ 0
+no_entry : (index : ℕ) → entry_in One 0 index ≡ 0
 no_entry index =
     let none : 0 / 4 ^ index ≡ 0 = omega (arith, div-le_self 0 (4 ^ index)) in
     rw none refl
@@ -38,7 +39,7 @@ module _ (area : Bytes) (len : ℕ) (cleared : IsZeroBelow area len) where
   }
 
   -- and one of the inventory, with no record and entries of 0
-  zeros_are_entries : (number : ℕ) → block_at (number + 1) ≤ len → IsInventoryBlock area (block_at number) 0 (λ index. 0)
+  zeros_are_entries : (number : ℕ) → block_at (number + 1) ≤ len → IsInventoryBlock One area (block_at number) 0 (λ index. 0)
   zeros_are_entries number inside = record {
     version = shows_zeros (block_at number + LSN_AT) 8 (omega (arith, inside));
     form = cleared.each (block_at number + FORM_AT) (omega (arith, inside));
@@ -49,13 +50,14 @@ module _ (area : Bytes) (len : ℕ) (cleared : IsZeroBelow area len) where
 
 module _ (pages : ℕ) (c : Image) (fresh : IsFresh pages c) where
   -- no record is in the log
-  log_is_sound : IsLogSound pages []
+  log_is_sound : IsLogSound One pages []
   log_is_sound = record { legal = tt; below = tt; room = omega arith }
 
   -- no checkpoint is named
-  image_is_sound : IsSoundImage c (fresh_fields pages) []
+  image_is_sound : IsSoundImage c One (fresh_fields pages) []
   image_is_sound = record {
     master = fresh.fields;
+    format_is = refl;
     log = record { stands = tt; closed = fresh.cleared.gate };
     log_sound = log_is_sound;
     checkpoint = inl refl;
@@ -72,7 +74,7 @@ module _ (pages : ℕ) (c : Image) (fresh : IsFresh pages c) where
     stands = (refl, refl);
   }
 
-  entries_are_whole : (block : ℕ) → block < blocks_of pages → HasEntries c (fresh_fields pages) [] block
+  entries_are_whole : (block : ℕ) → block < blocks_of pages → HasEntries c One (fresh_fields pages) [] block
   entries_are_whole block inside = record {
     version = 0;
     entries = λ index. 0;
@@ -85,6 +87,6 @@ module _ (pages : ℕ) (c : Image) (fresh : IsFresh pages c) where
 -- a new volume is whole
 pub fresh_is_whole : FreshIsWhole
 fresh_is_whole pages c fresh = record {
-  sound = record { fields = fresh_fields pages; batches = []; image = image_is_sound pages c fresh; copy = inl refl };
+  sound = record { format = One; fields = fresh_fields pages; batches = []; image = image_is_sound pages c fresh; copy = inl refl };
   blocks = λ restored. record { pages = page_is_whole pages c fresh; blocks = entries_are_whole pages c fresh };
 }

@@ -1,15 +1,16 @@
 -- What a block of the areas Data and Space stands for.
 use Rattle.std.specs.Prelude.{◌≡◌, ◌≢◌, ℕ, ◌+◌, ◌*◌, ◌/◌, ◌%◌, ◌^◌, ◌≤◌, ◌<◌, List, length, ◌⊎◌}
 use Rattle.std.specs.Int.{w16, w64, to_be_bytes}
-use Rattle.rm_types.specs.declared.numbers.TheConstants.{MAX_SLOT}
+use Rattle.rm_types.specs.declared.formats.Format.{Format}
+use Rattle.rm_types.specs.declared.formats.Format.TheVariants.{One}
+use Rattle.rm_types.specs.declared.numbers.TheConstants.{BLOCK_SIZE, BLOCK_PAGES, MAX_SLOT}
 use Rattle.rm_types.specs.declared.rows.TheConstants.{MAX_ROW}
 use Rattle.rm_types.specs.declared.slots.Slot.{Slot}
 use Rattle.rm_types.specs.declared.slots.Slot.TheVariants.{Vacant, Row}
 use Rattle.rm_types.specs.declared.slots.TheConstants.{SLOT_ENTRY}
+use Rattle.rm_types.specs.Formats.{greatest_category}
 use Rattle.rm_outside.specs.Images.{Bytes, Shows}
-use Rattle.rm_types.specs.declared.numbers.TheConstants.{BLOCK_PAGES}
 use Rattle.rm_history.specs.Contents.{slot_at}
-use Rattle.rm_types.specs.declared.numbers.TheConstants.{BLOCK_SIZE}
 use Rattle.rm_image.specs.declared.TheConstants.{LSN_AT, COUNT_AT, SLOTS_AT, FORM_AT, ENTRIES_AT, ENTRIES_IN_BYTE}
 
 -- where the entry of a slot stands in its block: an offset in two bytes, and a length in two
@@ -43,15 +44,24 @@ pub record IsDataBlock (area : Bytes) (block lsn : ℕ) (slots : List Slot) : Ty
   pub each : (number : ℕ) → number < length slots → HasSlot area block (length slots) number (slot_at slots number) (places number)
   pub apart : (a b : ℕ) → a < b → b < length slots → AreApart (places a) (slot_at slots a) (places b) (slot_at slots b)
 
--- the entry with this index in a byte of four of them
-abbrev pub entry_in : ℕ → ℕ → ℕ
-entry_in byte index = (byte / 4 ^ index) % 4
+-- the byte of an inventory block that tells its format
+abbrev pub form_of : Format → ℕ
+form_of One = 0
+
+-- how many entries of an inventory block stand in a byte
+abbrev pub entries_in_byte : Format → ℕ
+entries_in_byte One = ENTRIES_IN_BYTE
+
+-- the entry with this index in a byte of so many
+abbrev pub entry_in : Format → ℕ → ℕ → ℕ
+entry_in format byte index = (byte / (greatest_category format + 1) ^ index) % (greatest_category format + 1)
 
 -- the block at this offset of the area stands for the LSN and the categories of its pages
-pub record IsInventoryBlock (area : Bytes) (block lsn : ℕ) (entries : ℕ → ℕ) : Type 0 where
+pub record IsInventoryBlock (format : Format) (area : Bytes) (block lsn : ℕ) (entries : ℕ → ℕ) : Type 0 where
   pub version : Shows area (block + LSN_AT) (to_be_bytes w64 lsn)
-  pub form : area (block + FORM_AT) ≡ 0
-  pub each : (index : ℕ) → index < BLOCK_PAGES → entry_in (area (block + ENTRIES_AT + index / ENTRIES_IN_BYTE)) (index % ENTRIES_IN_BYTE) ≡ entries index
+  pub form : area (block + FORM_AT) ≡ form_of format
+  pub each : (index : ℕ) → index < BLOCK_PAGES
+      → entry_in format (area (block + ENTRIES_AT + index / entries_in_byte format)) (index % entries_in_byte format) ≡ entries index
 
 -- where a page's block is in area Data, and a block of the inventory in area Space
 abbrev pub block_at : ℕ → ℕ

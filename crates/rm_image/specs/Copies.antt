@@ -1,6 +1,7 @@
 -- Which images have a copy from which the file can be restored, and which images are sound and whole.
 use Rattle.std.specs.Prelude.{◌≡◌, ℕ, ◌+◌, ◌-◌, ◌*◌, ◌<◌, false, List, ◌⊎◌}
 use Rattle.rm_types.specs.declared.areas.Area.TheVariants.{Copy}
+use Rattle.rm_types.specs.declared.formats.Format.{Format}
 use Rattle.rm_types.specs.declared.slots.Slot.{Slot}
 use Rattle.rm_outside.specs.Images.{Image}
 use Rattle.rm_master.specs.declared.fields.Fields.{Fields}
@@ -23,30 +24,31 @@ pub record HasCopiedPage (c : Image) (batches : List Batch) (half start page : �
   pub block : IsDataBlock (c Copy) (block_at (copied_page half page)) version slots
   pub stands : StandsFor (batch_of batches) (acts_of_batches batches) page version slots start
 
-pub record HasCopiedEntries (c : Image) (batches : List Batch) (half start block : ℕ) : Type 0 where
+pub record HasCopiedEntries (c : Image) (format : Format) (batches : List Batch) (half start block : ℕ) : Type 0 where
   pub version : ℕ
   pub entries : ℕ → ℕ
-  pub is_block : IsInventoryBlock (c Copy) (block_at (copied_block half block)) version entries
+  pub is_block : IsInventoryBlock format (c Copy) (block_at (copied_block half block)) version entries
   pub stands : EntriesStandFor (batch_of batches) (acts_of_batches batches) block version entries start
 
 -- A half is a copy of the file: each of its blocks lacks no record of a batch from before the start.
-pub record IsCopy (c : Image) (batches : List Batch) (half start pages : ℕ) : Type 0 where
+pub record IsCopy (c : Image) (format : Format) (batches : List Batch) (half start pages : ℕ) : Type 0 where
   pub gate : IsGate batches start
   pub each : (page : ℕ) → page < pages → HasCopiedPage c batches half start page
-  pub blocks : (block : ℕ) → block < blocks_of pages → HasCopiedEntries c batches half start block
+  pub blocks : (block : ℕ) → block < blocks_of pages → HasCopiedEntries c format batches half start block
 
 -- the master names no half, or one that is a copy of the whole file
-abbrev pub IsCopySound : Image → Fields → List Batch → Type 0
-IsCopySound c fields batches = (fields.half ≡ 0) ⊎ ((fields.copied ≡ fields.pages) × IsCopy c batches fields.half fields.start fields.pages)
+abbrev pub IsCopySound : Image → Format → Fields → List Batch → Type 0
+IsCopySound c format fields batches = (fields.half ≡ 0) ⊎ ((fields.copied ≡ fields.pages) × IsCopy c format batches fields.half fields.start fields.pages)
 
 -- The image is sound: its master, its log, its checkpoint and its copy are.
 pub record IsSound (c : Image) : Type 0 where
+  pub format : Format
   pub fields : Fields
   pub batches : List Batch
-  pub image : IsSoundImage c fields batches
-  pub copy : IsCopySound c fields batches
+  pub image : IsSoundImage c format fields batches
+  pub copy : IsCopySound c format fields batches
 
 -- It is whole: each block of the file is too, unless the file is being restored.
 pub record IsWhole (c : Image) : Type 0 where
   pub sound : IsSound c
-  pub blocks : sound.fields.restoring ≡ false → AreBlocksWhole c sound.fields sound.batches
+  pub blocks : sound.fields.restoring ≡ false → AreBlocksWhole c sound.format sound.fields sound.batches

@@ -1,5 +1,6 @@
 -- What holds of all blocks and of all images.
 use Rattle.std.specs.Prelude.{◌≡◌, ℕ, ◌≤◌, ◌<◌, List, ◌↔◌}
+use Rattle.rm_types.specs.declared.formats.Format.{Format}
 use Rattle.rm_types.specs.declared.slots.Slot.{Slot}
 use Rattle.rm_outside.specs.Images.{Bytes, Image}
 use Rattle.rm_master.specs.Fresh.{IsFresh}
@@ -19,8 +20,8 @@ DataBlocksAreOne = (area : Bytes) (block lsn other : ℕ) (slots others : List S
     → IsDataBlock area block lsn slots → IsDataBlock area block other others → (lsn ≡ other) × (slots ≡ others)
 
 abbrev pub InventoryBlocksAreOne : Type 0
-InventoryBlocksAreOne = (area : Bytes) (block lsn other : ℕ) (entries others : ℕ → ℕ) → lsn < 18446744073709551616 → other < 18446744073709551616
-    → IsInventoryBlock area block lsn entries → IsInventoryBlock area block other others → (lsn ≡ other) × ((index : ℕ) → index < BLOCK_PAGES → entries index ≡ others index)
+InventoryBlocksAreOne = (format : Format) (area : Bytes) (block lsn other : ℕ) (entries others : ℕ → ℕ) → lsn < 18446744073709551616 → other < 18446744073709551616
+    → IsInventoryBlock format area block lsn entries → IsInventoryBlock format area block other others → (lsn ≡ other) × ((index : ℕ) → index < BLOCK_PAGES → entries index ≡ others index)
 
 -- The two ways of saying what a block lacks are one, where the gates of records rise with their LSNs.
 abbrev pub BlocksHaveFronts : Type 0

@@ -1,18 +1,20 @@
 -- Which images are whole: restart finds the committed rows in them, and has room to.
 use Rattle.std.specs.Prelude.{◌≡◌, ℕ, ◌+◌, ◌-◌, ◌*◌, ◌/◌, ◌≤◌, ◌<◌, ◌==◌, if◌then◌else◌, List, [], ◌∷◌, ◌⊎◌}
 use Rattle.rm_types.specs.declared.areas.Area.TheVariants.{Master, Log, Data, Space}
-use Rattle.rm_types.specs.declared.numbers.TheConstants.{MAX_LOG}
+use Rattle.rm_types.specs.declared.formats.Format.{Format}
+use Rattle.rm_types.specs.declared.numbers.TheConstants.{BLOCK_PAGES, MAX_LOG}
 use Rattle.rm_types.specs.declared.places.Place.{Place}
 use Rattle.rm_types.specs.declared.slots.Slot.{Slot}
 use Rattle.rm_outside.specs.Images.{Image}
 use Rattle.rm_master.specs.declared.fields.Fields.{Fields}
+use Rattle.rm_master.specs.Fields.{IsOfFormat}
 use Rattle.rm_master.specs.Slots.{HasFields}
-use Rattle.rm_types.specs.declared.numbers.TheConstants.{BLOCK_PAGES}
 use Rattle.rm_history.specs.declared.TheConstants.{BATCH_HEADER}
 use Rattle.rm_history.specs.Logs.{Batch, gate_of, HasLog}
 use Rattle.rm_history.specs.Acts.{Act, Listing, History, changes, undoes, enters, commits, ends, lists, lsn_of}
 use Rattle.rm_history.specs.Contents.{page_of, version_of, entry_of, block_version_of}
-use Rattle.rm_history.specs.Rules.{IsIn, IsLegal}
+use Rattle.rm_history.specs.Rules.{IsIn}
+use Rattle.rm_history.specs.Legal.{IsLegal}
 use Rattle.rm_history.specs.Undoing.{undo_bytes}
 use Rattle.rm_history.specs.Batched.{acts_of_batches, AreBelow, IsGate, batch_of}
 use Rattle.rm_image.specs.Blocks.{block_at, IsDataBlock, IsInventoryBlock}
@@ -54,10 +56,10 @@ EntriesStandFor gates (act ∷ before) block version entries redo =
 -- ---- the four parts
 
 -- The log is legal, its records name pages of the file, and restart's undo has room behind it.
-pub record IsLogSound (pages : ℕ) (batches : List Batch) : Type 0 where
-  pub legal : IsLegal (acts_of_batches batches)
+pub record IsLogSound (format : Format) (pages : ℕ) (batches : List Batch) : Type 0 where
+  pub legal : IsLegal format (acts_of_batches batches)
   pub below : AreBelow pages (acts_of_batches batches)
-  pub room : gate_of batches + (BATCH_HEADER + undo_bytes (acts_of_batches batches)) ≤ MAX_LOG
+  pub room : gate_of batches + (BATCH_HEADER + undo_bytes format (acts_of_batches batches)) ≤ MAX_LOG
 
 -- the history has this checkpoint
 abbrev pub HasListing : History → Listing → Type 0
@@ -104,11 +106,12 @@ IsRedoOfBlock fields batches block redo =
     ((fields.checkpoint ≡ 0) × (redo ≡ fields.batch))
     ⊎ ((listing : Listing) × NamesListing fields batches listing × (redo ≡ place_or listing.blocks block fields.batch))
 
--- An image is sound but for its copy: master, log and checkpoint.
-pub record IsSoundImage (c : Image) (fields : Fields) (batches : List Batch) : Type 0 where
+-- An image is sound but for its copy: master, log and checkpoint. Its log begins in the format that the master names.
+pub record IsSoundImage (c : Image) (format : Format) (fields : Fields) (batches : List Batch) : Type 0 where
   pub master : HasFields (c Master) fields
+  pub format_is : IsOfFormat fields format
   pub log : HasLog (c Log) batches
-  pub log_sound : IsLogSound fields.pages batches
+  pub log_sound : IsLogSound format fields.pages batches
   pub checkpoint : IsCheckpointSound fields batches
 
 -- a block of the file has what its redo offset says
@@ -120,15 +123,15 @@ pub record HasPage (c : Image) (fields : Fields) (batches : List Batch) (page : 
   pub redo_is : IsRedoOfPage fields batches page redo
   pub stands : StandsFor (batch_of batches) (acts_of_batches batches) page version slots redo
 
-pub record HasEntries (c : Image) (fields : Fields) (batches : List Batch) (block : ℕ) : Type 0 where
+pub record HasEntries (c : Image) (format : Format) (fields : Fields) (batches : List Batch) (block : ℕ) : Type 0 where
   pub version : ℕ
   pub entries : ℕ → ℕ
   pub redo : ℕ
-  pub is_block : IsInventoryBlock (c Space) (block_at block) version entries
+  pub is_block : IsInventoryBlock format (c Space) (block_at block) version entries
   pub redo_is : IsRedoOfBlock fields batches block redo
   pub stands : EntriesStandFor (batch_of batches) (acts_of_batches batches) block version entries redo
 
 -- and each block of the file, unless the file is being restored from its copy
-pub record AreBlocksWhole (c : Image) (fields : Fields) (batches : List Batch) : Type 0 where
+pub record AreBlocksWhole (c : Image) (format : Format) (fields : Fields) (batches : List Batch) : Type 0 where
   pub pages : (page : ℕ) → page < fields.pages → HasPage c fields batches page
-  pub blocks : (block : ℕ) → block < blocks_of fields.pages → HasEntries c fields batches block
+  pub blocks : (block : ℕ) → block < blocks_of fields.pages → HasEntries c format fields batches block

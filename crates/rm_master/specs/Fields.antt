@@ -1,9 +1,15 @@
 -- The fields of a volume's master: their rules, and the bytes that spell them.
 use Rattle.std.specs.Prelude.{◌≡◌, ◌≢◌, ℕ, ◌+◌, ◌^◌, ◌<◌, ◌≤◌, Bool, true, false, List, [], ◌∷◌, ◌++◌}
 use Rattle.std.specs.Int.{w16, w32, w64, to_be_bytes}
+use Rattle.rm_types.specs.declared.formats.Format.{Format}
+use Rattle.rm_types.specs.declared.formats.Format.TheVariants.{One}
 use Rattle.rm_types.specs.declared.numbers.TheConstants.{MAX_PAGES, MAX_LOG}
 use Rattle.rm_master.specs.declared.fields.TheConstants.{VERSION, FIRST_RECORD, LAST_HALF}
 use Rattle.rm_master.specs.declared.fields.Fields.{Fields}
+
+-- the version is that of the format
+abbrev pub IsOfFormat : Fields → Format → Type 0
+IsOfFormat f One = f.version ≡ VERSION
 
 -- the rules of the file's fields
 pub record KeepFileRules (f : Fields) : Type 0 where

@@ -5,7 +5,8 @@ use Rattle.std.proofs.lemmas.Bool.{eqb-true}
 use Rattle.rm_types.specs.declared.numbers.TxnId.{TxnId}
 use Rattle.rm_types.specs.declared.numbers.Lsn.{Lsn}
 use Rattle.rm_types.specs.declared.numbers.Rid.{Rid}
-use Rattle.rm_types.specs.declared.numbers.TheConstants.{MAX_PAGES, MAX_BLOCKS, MAX_CATEGORY}
+use Rattle.rm_types.specs.declared.formats.TheConstants.{MAX_CATEGORY}
+use Rattle.rm_types.specs.declared.numbers.TheConstants.{MAX_PAGES, MAX_BLOCKS}
 use Rattle.rm_types.specs.declared.places.Place.{Place}
 use Rattle.rm_types.specs.declared.slots.Slot.{Slot}
 use Rattle.rm_record.specs.declared.fields.Change.{Change}

@@ -4,7 +4,8 @@ use Rattle.std.specs.Int.{Width, w16, w32, w64, byte_len, from_be_bytes}
 use Rattle.rm_types.specs.declared.numbers.TxnId.{TxnId}
 use Rattle.rm_types.specs.declared.numbers.Lsn.{Lsn}
 use Rattle.rm_types.specs.declared.numbers.Rid.{Rid}
-use Rattle.rm_types.specs.declared.numbers.TheConstants.{MAX_PAGES, MAX_SLOT, MAX_CATEGORY}
+use Rattle.rm_types.specs.declared.formats.TheConstants.{MAX_CATEGORY}
+use Rattle.rm_types.specs.declared.numbers.TheConstants.{MAX_PAGES, MAX_SLOT}
 use Rattle.rm_types.specs.declared.places.Place.{Place}
 use Rattle.rm_types.specs.declared.rows.TheConstants.{MAX_ROW}
 use Rattle.rm_types.specs.declared.slots.Slot.{Slot}

@@ -1,6 +1,6 @@
 //! The records of the log, and their sizes.
 
-ghost use Rattle.std.specs.Prelude.{◌≡◌, ◌+◌, ◌*◌, ◌≤◌, length, slice_index};
+ghost use Rattle.std.specs.Prelude.{◌≡◌, ◌≢◌, ◌+◌, ◌*◌, ◌≤◌, length, slice_index};
 ghost use Rattle.rm_types.specs.declared.places.TheConstants.{MAX_PLACES};
 ghost use Rattle.rm_types.specs.declared.rows.TheConstants.{MAX_ROW};
 ghost use Rattle.rm_record.specs.declared.records.LogRecord.{LogRecord as AnyRecord};
@@ -169,10 +169,12 @@ fn places_size(places: &Places) -> u32
 }
 
 impl LogRecord {
-    /// So many bytes hold each record whose spelling begins with this byte: [`MAX_CHANGE`], or [`MAX_RECORD`].
+    /// So many bytes hold each record whose spelling begins with this byte: [`MAX_RECORD`] for the kind byte of a
+    /// checkpoint, and [`MAX_CHANGE`] for any other.
     pub fn most_bytes(first: u8) -> usize
         ensures enough { (logged : AnyRecord) → IsRecord logged → slice_index (spelling logged) 0 ≡ first → length (spelling logged) ≤ result }
-        ensures bound { result ≤ MAX_RECORD }
+        ensures few { first ≢ CHECKPOINT → result ≡ MAX_CHANGE }
+        ensures most { first ≡ CHECKPOINT → result ≡ MAX_RECORD }
     {
         if first == CHECKPOINT {
             MAX_RECORD

@@ -1,6 +1,7 @@
 -- How many bytes restart's undo of a plain history adds to the log.
 use Rattle.std.proofs.Common.{◌≡◌, inl, inr, ℕ, ◌+◌, ◌*◌, ◌≤◌, Bool, true, false, cond, eqb, List, [], ◌∷◌, length, refl, sym, ap, subst, ◌∙◌, arith}
 use Rattle.std.proofs.lemmas.Bool.{cases_eq, eq-eqb, ne_eqb}
+use Rattle.rm_types.specs.declared.formats.Format.TheVariants.{One}
 use Rattle.rm_types.specs.declared.slots.Slot.{Slot}
 use Rattle.rm_types.specs.declared.slots.Slot.TheVariants.{Vacant}
 use Rattle.rm_history.specs.Acts.{Change, Entry, History, changes, undoes, enters, commits, ends, lists}
@@ -32,14 +33,14 @@ entry_bytes false e = omega (arith, inventory_bytes e)
 
 -- ---- undoing some inserts
 
-undoing_bound : (history : History) (changed : List Change) → AreInserts changed → undoing_bytes history changed ≤ 48 * length changed
+undoing_bound : (history : History) (changed : List Change) → AreInserts changed → undoing_bytes One history changed ≤ 48 * length changed
 undoing_bound history [] all = omega arith
 undoing_bound history (last ∷ rest) all =
     omega (
       arith,
-      entry_bytes (eqb (entry_of history last.rid.page) (category_after history last)) (entry_for 0 history last),
+      entry_bytes (eqb (entry_of history last.rid.page) (category_after One history last)) (entry_for One 0 history last),
       compensate_bytes last all.0.before_is,
-      undoing_bound (with_undo history last) rest all.1,
+      undoing_bound (with_undo One history last) rest all.1,
     )
 
 -- ---- all that is pending, where one transaction alone has some
@@ -105,7 +106,7 @@ no_numbers (first ∷ rest) none = absurd (none first (inl refl))
 
 -- where one transaction alone has pending records, it is what undoes them
 pub undo_bytes-one : (history : History) → IsInOrder history → ArePlain history → (only : ℕ) → ((other : ℕ) → (other ≡ only → ⊥) → pending_of history other ≡ [])
-    → undo_bytes history ≤ 48 * length (pending_of history only) + 10
+    → undo_bytes One history ≤ 48 * length (pending_of history only) + 10
 undo_bytes-one history ordered plain only others =
     let all : pending_of history only ≡ all_pending history =
     pending_of-all history only ∙ all_of_one only (all_pending history) (λ other differs. sym (pending_of-all history other) ∙ others other differs) in
@@ -120,8 +121,8 @@ undo_bytes-one history ordered plain only others =
       at_most_one only (losers_of history) (losers_rise history) loser,
     )
 
-pub undo_bytes-none : (history : History) → IsInOrder history → ArePlain history → ((txn : ℕ) → pending_of history txn ≡ []) → undo_bytes history ≡ 0
+pub undo_bytes-none : (history : History) → IsInOrder history → ArePlain history → ((txn : ℕ) → pending_of history txn ≡ []) → undo_bytes One history ≡ 0
 undo_bytes-none history ordered plain none =
     let all : all_pending history ≡ [] = all_of_none (all_pending history) (λ txn. sym (pending_of-all history txn) ∙ none txn) in
     let losers : losers_of history ≡ [] = no_numbers (losers_of history) (λ n loses. loser_pends history ordered plain n loses (none n)) in
-    omega (arith, ap (undoing_bytes history) all, ap ending_bytes losers)
+    omega (arith, ap (undoing_bytes One history) all, ap ending_bytes losers)

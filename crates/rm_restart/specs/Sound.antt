@@ -1,6 +1,7 @@
 -- Which images are sound: the master, its log, and the checkpoint that it names.
 use Rattle.std.specs.Prelude.{◌≡◌, ℕ, ◌+◌, ◌≤◌, List}
 use Rattle.rm_types.specs.declared.areas.Area.TheVariants.{Master, Log}
+use Rattle.rm_types.specs.declared.formats.Format.TheVariants.{One}
 use Rattle.rm_types.specs.declared.numbers.TheConstants.{MAX_LOG}
 use Rattle.rm_outside.specs.Images.{Image}
 use Rattle.rm_model.specs.Object.{Rows}
@@ -22,13 +23,13 @@ pub record IsImageOf (pages : ℕ) (batches : List Batch) (c : Image) : Type 0 w
   pub checkpoint : fields.checkpoint ≡ 0
   pub log : HasLog (c Log) batches
 
--- The log is in order and plain, names pages of the file alone, and has room for restart's undo. It need not be legal:
--- the inventory is not kept yet, so the entries do not follow.
+-- The log is in order and plain, names pages of the file alone, and has room for restart's undo, in the one format that there
+-- is. It need not be legal: the inventory is not kept yet.
 pub record IsSoundLog (pages : ℕ) (batches : List Batch) : Type 0 where
   pub in_order : IsInOrder (acts_of_batches batches)
   pub plain : ArePlain (acts_of_batches batches)
   pub below : AreBelow pages (acts_of_batches batches)
-  pub room : gate_of batches + (BATCH_HEADER + undo_bytes (acts_of_batches batches)) ≤ MAX_LOG
+  pub room : gate_of batches + (BATCH_HEADER + undo_bytes One (acts_of_batches batches)) ≤ MAX_LOG
 
 -- the image is sound
 pub record IsSound (c : Image) : Type 0 where

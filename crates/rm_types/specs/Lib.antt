@@ -1,3 +1,4 @@
 pub mod Bindings
 pub mod Lines
 pub mod Rising
+pub mod Formats

@@ -15,9 +15,6 @@ pub const BLOCK_PAGES: u32 = 1_024;
 /// The most blocks that a file's inventory has.
 pub const MAX_BLOCKS: u32 = 16;
 
-/// The greatest category that the inventory has for a page.
-pub const MAX_CATEGORY: u8 = 3;
-
 /// The greatest offset in the log at which a record may end.
 pub const MAX_LOG: u64 = 1 << 48;
 

@@ -1,15 +1,15 @@
-//! Legal logs, each broken in one way.
+//! Legal logs, each broken at one record.
 
 use super::lines::{Line, add, log_of};
 use super::logs::Legal;
 use crate::{Illegal, Verdict, audit};
-use rm_types::Lsn;
+use rm_types::{Format, Lsn};
 use std::alloc::Global;
 use std::process::Abort;
 use std::test::Fail;
 
 // A legal log, the lines from and up to which others stand in their place, those lines, the LSN of the first record
-// with which it is not legal, and the condition that the record breaks.
+// with which it is not legal, and the first condition that the record breaks.
 #[derive(Clone, Copy)]
 pub(super) struct Broken(
     pub Legal,
@@ -29,7 +29,7 @@ pub(super) fn check(rt: &impl Abort, alloc: Global, broken: Broken) -> Result<()
     add(alloc, &mut log, &lines[to..])?;
     let lsn = Lsn(lsn);
     assert_eq!(rt;
-        audit(alloc, &log)?,
+        audit(alloc, Format::One, &log)?,
         Verdict::Illegal { lsn, why },
         "{lsn:?} {why:?}"
     );

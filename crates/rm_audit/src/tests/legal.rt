@@ -12,7 +12,7 @@ use crate::{
     pending_changes, row, version,
 };
 use rm_record::Logged;
-use rm_types::{Lsn, Rid, Row, Slot, TxnId};
+use rm_types::{Format, Lsn, Rid, Row, Slot, TxnId};
 use std::alloc::Global;
 use std::process::Abort;
 use std::test::Fail;
@@ -31,7 +31,7 @@ fn need_in(needs: &[(u32, u128)], txn: u32) -> u128 {
 fn check_front(rt: &impl Abort, alloc: Global, log: &[Logged], due: Page) -> Result<(), Fail> {
     let Page(bytes, category, needs) = due;
     let count = log.len();
-    assert_eq!(rt; audit(alloc, log)?, Verdict::Legal, "{count}");
+    assert_eq!(rt; audit(alloc, Format::One, log)?, Verdict::Legal, "{count}");
     assert_eq!(rt; used(&page(alloc, log, 0)?), bytes, "{count}");
     assert_eq!(rt; entry(log, 0), category, "{count}");
     for txn in 1..5 {
@@ -153,6 +153,6 @@ fn pending_changes_come_in_order(rt: HostRuntime) -> Result<(), Fail> {
 
 #[test]
 fn no_records_are_legal(rt: HostRuntime) -> Result<(), Fail> {
-    assert_eq!(rt; audit(rt.alloc(), &[])?, Verdict::Legal);
+    assert_eq!(rt; audit(rt.alloc(), Format::One, &[])?, Verdict::Legal);
     Ok(())
 }

@@ -4,6 +4,7 @@ use super::lines::Does::{Commit, Insert};
 use super::lines::{Line, add};
 use crate::{Verdict, audit};
 use rm_record::Logged;
+use rm_types::Format;
 use std::alloc::Global;
 use std::test::Fail;
 
@@ -35,6 +36,6 @@ fn two_thousand_records_are_legal(rt: HostRuntime) -> Result<(), Fail> {
         add_txn(alloc, &mut log, txn)?;
     }
     assert_eq!(rt; log.len(), 2000);
-    assert_eq!(rt; audit(alloc, &log)?, Verdict::Legal);
+    assert_eq!(rt; audit(alloc, Format::One, &log)?, Verdict::Legal);
     Ok(())
 }
