@@ -6,8 +6,9 @@ use Rattle.rm_types.specs.declared.places.Place.{Place}
 use Rattle.rm_types.specs.declared.slots.Slot.{Slot}
 use Rattle.rm_types.specs.declared.slots.Slot.TheVariants.{Vacant, Row}
 use Rattle.rm_history.specs.Acts.{Change, Finish, History, changes, commits}
-use Rattle.rm_image.specs.Blocks.{entry_in, IsRowAt, AreApart}
-use Rattle.rm_image.specs.Whole.{StandsFor, place_or, blocks_of}
+use Rattle.rm_image.specs.Blocks.{entry_in, IsRowAt, AreApart, blocks_of}
+use Rattle.rm_image.specs.Standing.{StandsFor}
+use Rattle.rm_image.specs.Checkpoints.{place_or, least_of}
 use Rattle.rm_image.specs.Copies.{copied_page, copied_block}
 
 abbrev row : List ℕ
@@ -75,6 +76,10 @@ some_blocks = (refl, refl, refl, refl)
 -- a listed block has its own offset, any other that of the batch
 listed : (place_or (record { number = 3; at = 10 } ∷ []) 3 99 ≡ 10) × (place_or (record { number = 3; at = 10 } ∷ []) 4 99 ≡ 99)
 listed = (refl, refl)
+
+-- the least offset
+least : (least_of (record { number = 3; at = 40 } ∷ record { number = 5; at = 10 } ∷ []) 99 ≡ 10) × (least_of (record { number = 3; at = 120 } ∷ []) 99 ≡ 99)
+least = (refl, refl)
 
 -- where the halves of area Copy have their blocks
 copies : (copied_page 1 7 ≡ 7) × (copied_page 2 7 ≡ 16407) × (copied_block 1 0 ≡ 16384) × (copied_block 2 15 ≡ 32799)

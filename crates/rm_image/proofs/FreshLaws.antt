@@ -1,5 +1,5 @@
 -- A new volume is whole: its blocks are zeros, which stand for no record, and its log is empty.
-use Rattle.std.proofs.Common.{◌≡◌, inl, ℕ, ◌+◌, ◌/◌, ◌%◌, ◌^◌, ◌≤◌, ◌<◌, [], replicate, refl, sym, ◌∙◌, arith}
+use Rattle.std.proofs.Common.{◌≡◌, inl, None, ℕ, ◌+◌, ◌/◌, ◌%◌, ◌^◌, ◌≤◌, ◌<◌, [], replicate, refl, sym, ◌∙◌, arith}
 use Rattle.std.proofs.Math.Nat.{div-le_self}
 use Rattle.std.proofs.lemmas.List.{length-replicate, get_or-replicate}
 use Rattle.rm_types.specs.declared.areas.Area.TheVariants.{Data, Space}
@@ -8,8 +8,8 @@ use Rattle.rm_outside.specs.Images.{Bytes, Image, Shows}
 use Rattle.rm_master.specs.Fields.{fresh_fields}
 use Rattle.rm_master.specs.Fresh.{IsZeroBelow, IsFresh}
 use Rattle.rm_image.specs.declared.TheConstants.{LSN_AT, COUNT_AT, FORM_AT, ENTRIES_AT, ENTRIES_IN_BYTE}
-use Rattle.rm_image.specs.Blocks.{block_at, IsDataBlock, IsInventoryBlock, entry_in}
-use Rattle.rm_image.specs.Whole.{IsLogSound, IsSoundImage, HasPage, HasEntries, blocks_of}
+use Rattle.rm_image.specs.Blocks.{block_at, blocks_of, IsDataBlock, IsInventoryBlock, entry_in}
+use Rattle.rm_image.specs.Whole.{IsLogSound, IsSound, HasPage, HasEntries}
 use Rattle.rm_image.specs.Laws.{FreshIsWhole}
 
 -- no entry is in a byte of 0
@@ -53,14 +53,18 @@ module _ (pages : ℕ) (c : Image) (fresh : IsFresh pages c) where
   log_is_sound : IsLogSound One pages []
   log_is_sound = record { legal = tt; below = tt; room = omega arith }
 
-  -- no checkpoint is named
-  image_is_sound : IsSoundImage c One (fresh_fields pages) []
+  -- no checkpoint is named, and no copy
+  abbrev image_is_sound : IsSound c
   image_is_sound = record {
+    format = One;
+    fields = fresh_fields pages;
+    batches = [];
     master = fresh.fields;
     format_is = refl;
-    log = record { stands = tt; closed = fresh.cleared.gate };
-    log_sound = log_is_sound;
-    checkpoint = inl refl;
+    has_log = record { stands = tt; closed = fresh.cleared.gate };
+    log = log_is_sound;
+    checkpoint = (None, refl);
+    copy = inl refl;
   }
 
   -- each page has no record, and each block of the inventory has none
@@ -70,7 +74,7 @@ module _ (pages : ℕ) (c : Image) (fresh : IsFresh pages c) where
     slots = [];
     redo = 0;
     block = zeros_are_page (c Data) _ fresh.cleared.data_blocks page (omega (arith, inside));
-    redo_is = inl (refl, refl);
+    redo_is = (None, refl, refl);
     stands = (refl, refl);
   }
 
@@ -80,13 +84,13 @@ module _ (pages : ℕ) (c : Image) (fresh : IsFresh pages c) where
     entries = λ index. 0;
     redo = 0;
     is_block = zeros_are_entries (c Space) _ fresh.cleared.space block (omega (arith, inside));
-    redo_is = inl (refl, refl);
+    redo_is = (None, refl, refl);
     stands = (refl, λ index below. refl);
   }
 
 -- a new volume is whole
 pub fresh_is_whole : FreshIsWhole
 fresh_is_whole pages c fresh = record {
-  sound = record { format = One; fields = fresh_fields pages; batches = []; image = image_is_sound pages c fresh; copy = inl refl };
+  sound = image_is_sound pages c fresh;
   blocks = λ restored. record { pages = page_is_whole pages c fresh; blocks = entries_are_whole pages c fresh };
 }

@@ -6,7 +6,7 @@ use Rattle.rm_types.specs.declared.numbers.TheConstants.{BLOCK_PAGES}
 use Rattle.rm_history.specs.Acts.{Act, History, changes, undoes, enters, lsn_of, newest_lsn}
 use Rattle.rm_history.specs.Contents.{page_of, version_of, entry_of, block_version_of}
 use Rattle.rm_history.specs.Rules.{IsInOrder}
-use Rattle.rm_image.specs.Whole.{IsOnPage, IsInBlock, StandsFor, EntriesStandFor}
+use Rattle.rm_image.specs.Standing.{IsOnPage, IsInBlock, StandsFor, EntriesStandFor}
 use Rattle.rm_image.specs.Fronts.{HasFront, HasEntriesOfFront}
 use Rattle.rm_image.specs.Laws.{BlocksHaveFronts, InventoryBlocksHaveFronts}
 use Rattle.rm_image.proofs.FrontLemmas.{Stands, Front, IsBlock, front_of, stands_for_front}

@@ -4,3 +4,4 @@ pub mod BlockLaws
 pub mod FreshLaws
 pub mod Gates
 pub mod Examples
+pub mod CheckpointLaws

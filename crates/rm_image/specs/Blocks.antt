@@ -1,5 +1,5 @@
 -- What a block of the areas Data and Space stands for.
-use Rattle.std.specs.Prelude.{◌≡◌, ◌≢◌, ℕ, ◌+◌, ◌*◌, ◌/◌, ◌%◌, ◌^◌, ◌≤◌, ◌<◌, List, length, ◌⊎◌}
+use Rattle.std.specs.Prelude.{◌≡◌, ◌≢◌, ℕ, ◌+◌, ◌-◌, ◌*◌, ◌/◌, ◌%◌, ◌^◌, ◌≤◌, ◌<◌, List, length, ◌⊎◌}
 use Rattle.std.specs.Int.{w16, w64, to_be_bytes}
 use Rattle.rm_types.specs.declared.formats.Format.{Format}
 use Rattle.rm_types.specs.declared.formats.Format.TheVariants.{One}
@@ -66,3 +66,7 @@ pub record IsInventoryBlock (format : Format) (area : Bytes) (block lsn : ℕ) (
 -- where a page's block is in area Data, and a block of the inventory in area Space
 abbrev pub block_at : ℕ → ℕ
 block_at number = BLOCK_SIZE * number
+
+-- how many blocks of the inventory describe so many pages
+abbrev pub blocks_of : ℕ → ℕ
+blocks_of pages = (pages + (BLOCK_PAGES - 1)) / BLOCK_PAGES

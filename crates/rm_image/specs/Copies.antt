@@ -1,5 +1,5 @@
--- Which images have a copy from which the file can be restored, and which images are sound and whole.
-use Rattle.std.specs.Prelude.{◌≡◌, ℕ, ◌+◌, ◌-◌, ◌*◌, ◌<◌, false, List, ◌⊎◌}
+-- Which images have a copy from which the file can be restored.
+use Rattle.std.specs.Prelude.{◌≡◌, ℕ, ◌+◌, ◌-◌, ◌*◌, ◌<◌, List, ◌⊎◌}
 use Rattle.rm_types.specs.declared.areas.Area.TheVariants.{Copy}
 use Rattle.rm_types.specs.declared.formats.Format.{Format}
 use Rattle.rm_types.specs.declared.slots.Slot.{Slot}
@@ -8,8 +8,8 @@ use Rattle.rm_master.specs.declared.fields.Fields.{Fields}
 use Rattle.rm_history.specs.Logs.{Batch}
 use Rattle.rm_image.specs.declared.TheConstants.{HALF_BLOCKS, COPIED_SPACE}
 use Rattle.rm_history.specs.Batched.{acts_of_batches, batch_of, IsGate}
-use Rattle.rm_image.specs.Blocks.{block_at, IsDataBlock, IsInventoryBlock}
-use Rattle.rm_image.specs.Whole.{StandsFor, EntriesStandFor, blocks_of, IsSoundImage, AreBlocksWhole}
+use Rattle.rm_image.specs.Blocks.{block_at, blocks_of, IsDataBlock, IsInventoryBlock}
+use Rattle.rm_image.specs.Standing.{StandsFor, EntriesStandFor}
 
 -- where a half of area Copy has the copy of a page's block, and of a block of the inventory, as numbers of blocks
 abbrev pub copied_page : ℕ → ℕ → ℕ
@@ -39,16 +39,3 @@ pub record IsCopy (c : Image) (format : Format) (batches : List Batch) (half sta
 -- the master names no half, or one that is a copy of the whole file
 abbrev pub IsCopySound : Image → Format → Fields → List Batch → Type 0
 IsCopySound c format fields batches = (fields.half ≡ 0) ⊎ ((fields.copied ≡ fields.pages) × IsCopy c format batches fields.half fields.start fields.pages)
-
--- The image is sound: its master, its log, its checkpoint and its copy are.
-pub record IsSound (c : Image) : Type 0 where
-  pub format : Format
-  pub fields : Fields
-  pub batches : List Batch
-  pub image : IsSoundImage c format fields batches
-  pub copy : IsCopySound c format fields batches
-
--- It is whole: each block of the file is too, unless the file is being restored.
-pub record IsWhole (c : Image) : Type 0 where
-  pub sound : IsSound c
-  pub blocks : sound.fields.restoring ≡ false → AreBlocksWhole c sound.format sound.fields sound.batches

@@ -1,18 +1,20 @@
 -- What holds of all blocks and of all images.
-use Rattle.std.specs.Prelude.{◌≡◌, ℕ, ◌≤◌, ◌<◌, List, ◌↔◌}
+use Rattle.std.specs.Prelude.{◌≡◌, ℕ, ◌≤◌, ◌<◌, List, false, Option, ◌↔◌}
 use Rattle.rm_types.specs.declared.formats.Format.{Format}
 use Rattle.rm_types.specs.declared.slots.Slot.{Slot}
 use Rattle.rm_outside.specs.Images.{Bytes, Image}
+use Rattle.rm_master.specs.declared.fields.Fields.{Fields}
 use Rattle.rm_master.specs.Fresh.{IsFresh}
 use Rattle.rm_types.specs.declared.numbers.TheConstants.{BLOCK_PAGES}
 use Rattle.rm_history.specs.Logs.{Batch}
-use Rattle.rm_history.specs.Batched.{batch_of}
-use Rattle.rm_history.specs.Acts.{History}
+use Rattle.rm_history.specs.Batched.{acts_of_batches, batch_of}
+use Rattle.rm_history.specs.Acts.{Listing, History}
 use Rattle.rm_history.specs.Rules.{IsInOrder}
 use Rattle.rm_image.specs.Blocks.{IsDataBlock, IsInventoryBlock}
-use Rattle.rm_image.specs.Whole.{StandsFor, EntriesStandFor}
+use Rattle.rm_image.specs.Standing.{StandsFor, EntriesStandFor}
+use Rattle.rm_image.specs.Checkpoints.{HasCheckpoint, IsRedoOfPage, IsRedoOfBlock, IsRedoPoint}
 use Rattle.rm_image.specs.Fronts.{HasFront, HasEntriesOfFront}
-use Rattle.rm_image.specs.Copies.{IsWhole}
+use Rattle.rm_image.specs.Whole.{IsWhole}
 
 -- a block stands for one LSN and one list of slots; so does a block of the inventory for its categories
 abbrev pub DataBlocksAreOne : Type 0
@@ -35,6 +37,18 @@ InventoryBlocksHaveFronts = (gates : ℕ → ℕ) (history : History) (block ver
 -- as the gates of a log's batches do
 abbrev pub GatesRise : Type 0
 GatesRise = (batches : List Batch) (a b : ℕ) → a ≤ b → batch_of batches a ≤ batch_of batches b
+
+-- of a log in order the master names one checkpoint, or none
+abbrev pub CheckpointsAreOne : Type 0
+CheckpointsAreOne = (fields : Fields) (batches : List Batch) (named other : Option Listing) → IsInOrder (acts_of_batches batches)
+    → HasCheckpoint fields batches named → HasCheckpoint fields batches other → named ≡ other
+
+-- unless the file is being restored, no block's redo offset is before the redo point
+pub record RedoPointIsLeast : Type 0 where
+  pub pages : (fields : Fields) (batches : List Batch) (point page redo : ℕ) → IsInOrder (acts_of_batches batches) → fields.restoring ≡ false
+      → IsRedoPoint fields batches point → IsRedoOfPage fields batches page redo → point ≤ redo
+  pub blocks : (fields : Fields) (batches : List Batch) (point block redo : ℕ) → IsInOrder (acts_of_batches batches) → fields.restoring ≡ false
+      → IsRedoPoint fields batches point → IsRedoOfBlock fields batches block redo → point ≤ redo
 
 -- a new volume is whole
 abbrev pub FreshIsWhole : Type 0

@@ -1,5 +1,7 @@
 pub mod Blocks
-pub mod Whole
+pub mod Standing
+pub mod Checkpoints
 pub mod Copies
+pub mod Whole
 pub mod Fronts
 pub mod Laws

@@ -4,7 +4,7 @@
 //! The crate has no code yet. The functions are laws: each ensures something of the definitions alone.
 #![tactic(auto)]
 
-ghost use Rattle.rm_image.specs.Laws.{DataBlocksAreOne, InventoryBlocksAreOne, BlocksHaveFronts, InventoryBlocksHaveFronts, GatesRise, FreshIsWhole};
+ghost use Rattle.rm_image.specs.Laws.{DataBlocksAreOne, InventoryBlocksAreOne, BlocksHaveFronts, InventoryBlocksHaveFronts, GatesRise, CheckpointsAreOne, RedoPointIsLeast, FreshIsWhole};
 
 /// Where a block has its LSN, in eight bytes.
 pub const LSN_AT: u64 = 0;
@@ -55,6 +55,16 @@ pub fn gates_rise()
 /// a front.
 pub fn an_inventory_block_has_a_front()
     ensures { InventoryBlocksHaveFronts }
+{}
+
+/// Of a log in order the master names one checkpoint, or none.
+pub fn a_master_names_one_checkpoint()
+    ensures { CheckpointsAreOne }
+{}
+
+/// Unless the file is being restored, no block's redo offset is before the redo point.
+pub fn no_redo_offset_is_before_the_redo_point()
+    ensures { RedoPointIsLeast }
 {}
 
 /// A volume that was just made is whole.
