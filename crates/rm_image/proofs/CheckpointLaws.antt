@@ -3,10 +3,10 @@ use Rattle.std.proofs.Common.{◌≡◌, inl, inr, ℕ, ◌<◌, ◌≤◌, Bool
 use Rattle.rm_types.specs.declared.places.Place.{Place}
 use Rattle.rm_master.specs.declared.fields.Fields.{Fields}
 use Rattle.rm_history.specs.Logs.{Batch}
-use Rattle.rm_history.specs.Acts.{Act, Listing, History, changes, undoes, enters, commits, ends, lists, lsn_of, newest_lsn}
+use Rattle.rm_history.specs.Acts.{Act, Listing, History, changes, undoes, enters, commits, ends, lists, newest_lsn}
 use Rattle.rm_history.specs.Rules.{Follows, IsInOrder}
 use Rattle.rm_history.specs.Batched.{acts_of_batches}
-use Rattle.rm_image.specs.Checkpoints.{HasListing, HasCheckpoint, listed_pages, listed_blocks, place_or, least_of, IsRedoOfPage, IsRedoOfBlock, IsRedoPoint}
+use Rattle.rm_image.specs.Checkpoints.{HasListing, listed_pages, listed_blocks, place_or, least_of, IsRedoOfPage, IsRedoOfBlock, IsRedoPoint}
 use Rattle.rm_image.specs.Laws.{CheckpointsAreOne, RedoPointIsLeast}
 
 -- ---- one checkpoint

@@ -1,9 +1,6 @@
 -- The definitions of blocks, redo offsets, checkpoints and copies, on examples.
-use Rattle.std.proofs.Common.{◌≡◌, ℕ, ◌<◌, ◌≤◌, List, [], ◌∷◌, inl, inr, refl, arith, lit<, lit≤}
+use Rattle.std.proofs.Common.{◌≡◌, ℕ, List, [], ◌∷◌, inl, inr, refl, arith, lit<, lit≤}
 use Rattle.rm_types.specs.declared.formats.Format.TheVariants.{One}
-use Rattle.rm_types.specs.declared.numbers.Rid.{Rid}
-use Rattle.rm_types.specs.declared.places.Place.{Place}
-use Rattle.rm_types.specs.declared.slots.Slot.{Slot}
 use Rattle.rm_types.specs.declared.slots.Slot.TheVariants.{Vacant, Row}
 use Rattle.rm_history.specs.Acts.{Change, Finish, History, changes, commits}
 use Rattle.rm_image.specs.Blocks.{entry_in, IsRowAt, AreApart, blocks_of}

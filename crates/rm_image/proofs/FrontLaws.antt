@@ -20,7 +20,7 @@ cond-le false a b bound first second = second
 
 module _ (page : ℕ) where
   -- the records that are on the page
-  abbrev IsOn : Act → Type 0
+  abbrev pub IsOn : Act → Type 0
   IsOn act = IsOnPage act page
 
   -- a record on the page gives it its LSN as version, and any other leaves version and slots
@@ -29,18 +29,18 @@ module _ (page : ℕ) where
   version_on (undoes u) before on = rw (eq-eqb u.rid.page page on) refl
   version_on other before on = absurd on
 
-  version_off : (act : Act) (before : History) → (IsOn act → ⊥) → version_of (act ∷ before) page ≡ version_of before page
+  pub version_off : (act : Act) (before : History) → (IsOn act → ⊥) → version_of (act ∷ before) page ≡ version_of before page
   version_off (changes c) before off = rw (ne_eqb c.rid.page page off) refl
   version_off (undoes u) before off = rw (ne_eqb u.rid.page page off) refl
   version_off other before off = refl
 
-  page_off : (act : Act) (before : History) → (IsOn act → ⊥) → page_of (act ∷ before) page ≡ page_of before page
+  pub page_off : (act : Act) (before : History) → (IsOn act → ⊥) → page_of (act ∷ before) page ≡ page_of before page
   page_off (changes c) before off = rw (ne_eqb c.rid.page page off) refl
   page_off (undoes u) before off = rw (ne_eqb u.rid.page page off) refl
   page_off other before off = refl
 
   -- the version is not above the newest record
-  version_within : (history : History) → IsInOrder history → version_of history page ≤ newest_lsn history
+  pub version_within : (history : History) → IsInOrder history → version_of history page ≤ newest_lsn history
   version_within [] ordered = omega arith
   version_within (changes c ∷ before) ordered = cond-le (c.rid.page == page) c.lsn (version_of before page) c.lsn (omega arith) (omega (arith, version_within before ordered.0, ordered.1.above))
   version_within (undoes u ∷ before) ordered = cond-le (u.rid.page == page) u.lsn (version_of before page) u.lsn (omega arith) (omega (arith, version_within before ordered.0, ordered.1.above))
@@ -48,7 +48,7 @@ module _ (page : ℕ) where
 
   module _ (gates : ℕ → ℕ) (version : ℕ) (slots : List Slot) (redo : ℕ) where
     -- the block holds the page of a history
-    abbrev Holds : History → Type 0
+    abbrev pub Holds : History → Type 0
     Holds history = (version ≡ version_of history page) × (slots ≡ page_of history page)
 
     -- so it is such a block
@@ -61,7 +61,7 @@ module _ (page : ℕ) where
     }
 
     -- the two ways of saying what it stands for, record by record
-    to_stands : (history : History) → StandsFor gates history page version slots redo → Stands Holds IsOn gates version redo history
+    pub to_stands : (history : History) → StandsFor gates history page version slots redo → Stands Holds IsOn gates version redo history
     to_stands [] stands = stands
     to_stands (act ∷ before) stands = (stands.0, λ above. ((stands.1 above).0, to_stands before (stands.1 above).1))
 
@@ -106,7 +106,7 @@ block_of-page block index inside = omega arith
 
 module _ (block : ℕ) where
   -- the records that are in the block
-  abbrev IsIn : Act → Type 0
+  abbrev pub IsIn : Act → Type 0
   IsIn act = IsInBlock act block
 
   -- a record in the block gives it its LSN as version, and any other leaves version and entries
@@ -114,11 +114,11 @@ module _ (block : ℕ) where
   block_version_on (enters e) before on = rw (eq-eqb (e.page / BLOCK_PAGES) block on) refl
   block_version_on other before on = absurd on
 
-  block_version_off : (act : Act) (before : History) → (IsIn act → ⊥) → block_version_of (act ∷ before) block ≡ block_version_of before block
+  pub block_version_off : (act : Act) (before : History) → (IsIn act → ⊥) → block_version_of (act ∷ before) block ≡ block_version_of before block
   block_version_off (enters e) before off = rw (ne_eqb (e.page / BLOCK_PAGES) block off) refl
   block_version_off other before off = refl
 
-  entry_off : (act : Act) (before : History) → (IsIn act → ⊥) → (index : ℕ) → index < BLOCK_PAGES
+  pub entry_off : (act : Act) (before : History) → (IsIn act → ⊥) → (index : ℕ) → index < BLOCK_PAGES
       → entry_of (act ∷ before) (BLOCK_PAGES * block + index) ≡ entry_of before (BLOCK_PAGES * block + index)
   entry_off (enters e) before off index inside =
       let other : e.page ≡ BLOCK_PAGES * block + index → ⊥ = λ same. off (ap (λ (n : ℕ). n / BLOCK_PAGES) same ∙ block_of-page block index inside) in
@@ -126,7 +126,7 @@ module _ (block : ℕ) where
   entry_off other before off index inside = refl
 
   -- the version is not above the newest record
-  block_version_within : (history : History) → IsInOrder history → block_version_of history block ≤ newest_lsn history
+  pub block_version_within : (history : History) → IsInOrder history → block_version_of history block ≤ newest_lsn history
   block_version_within [] ordered = omega arith
   block_version_within (enters e ∷ before) ordered =
       cond-le ((e.page / BLOCK_PAGES) == block) e.lsn (block_version_of before block) e.lsn (omega arith) (omega (arith, block_version_within before ordered.0, ordered.1.above))
@@ -134,7 +134,7 @@ module _ (block : ℕ) where
 
   module _ (gates : ℕ → ℕ) (version : ℕ) (entries : ℕ → ℕ) (redo : ℕ) where
     -- the block holds the entries of a history
-    abbrev HoldsEntries : History → Type 0
+    abbrev pub HoldsEntries : History → Type 0
     HoldsEntries history = (version ≡ block_version_of history block) × ((index : ℕ) → index < BLOCK_PAGES → entries index ≡ entry_of history (BLOCK_PAGES * block + index))
 
     -- so it is such a block
@@ -153,7 +153,7 @@ module _ (block : ℕ) where
     }
 
     -- the two ways of saying what it stands for, record by record
-    entries_to_stands : (history : History) → EntriesStandFor gates history block version entries redo → Stands HoldsEntries IsIn gates version redo history
+    pub entries_to_stands : (history : History) → EntriesStandFor gates history block version entries redo → Stands HoldsEntries IsIn gates version redo history
     entries_to_stands [] stands = stands
     entries_to_stands (act ∷ before) stands = (stands.0, λ above. ((stands.1 above).0, entries_to_stands before (stands.1 above).1))
 

@@ -5,3 +5,4 @@ pub mod FreshLaws
 pub mod Gates
 pub mod Examples
 pub mod CheckpointLaws
+pub mod RedoLaws

@@ -1,5 +1,5 @@
 -- What holds of all blocks and of all images.
-use Rattle.std.specs.Prelude.{◌≡◌, ℕ, ◌≤◌, ◌<◌, List, false, Option, ◌↔◌}
+use Rattle.std.specs.Prelude.{◌≡◌, ℕ, ◌+◌, ◌*◌, ◌≤◌, ◌<◌, List, false, Option, ◌↔◌}
 use Rattle.rm_types.specs.declared.formats.Format.{Format}
 use Rattle.rm_types.specs.declared.slots.Slot.{Slot}
 use Rattle.rm_outside.specs.Images.{Bytes, Image}
@@ -9,11 +9,13 @@ use Rattle.rm_types.specs.declared.numbers.TheConstants.{BLOCK_PAGES}
 use Rattle.rm_history.specs.Logs.{Batch}
 use Rattle.rm_history.specs.Batched.{acts_of_batches, batch_of}
 use Rattle.rm_history.specs.Acts.{Listing, History}
+use Rattle.rm_history.specs.Contents.{page_of, version_of, entry_of, block_version_of}
 use Rattle.rm_history.specs.Rules.{IsInOrder}
 use Rattle.rm_image.specs.Blocks.{IsDataBlock, IsInventoryBlock}
 use Rattle.rm_image.specs.Standing.{StandsFor, EntriesStandFor}
 use Rattle.rm_image.specs.Checkpoints.{HasCheckpoint, IsRedoOfPage, IsRedoOfBlock, IsRedoPoint}
 use Rattle.rm_image.specs.Fronts.{HasFront, HasEntriesOfFront}
+use Rattle.rm_image.specs.Redo.{EntriesBlock, page_redone, entries_redone}
 use Rattle.rm_image.specs.Whole.{IsWhole}
 
 -- a block stands for one LSN and one list of slots; so does a block of the inventory for its categories
@@ -37,6 +39,22 @@ InventoryBlocksHaveFronts = (gates : ℕ → ℕ) (history : History) (block ver
 -- as the gates of a log's batches do
 abbrev pub GatesRise : Type 0
 GatesRise = (batches : List Batch) (a b : ℕ) → a ≤ b → batch_of batches a ≤ batch_of batches b
+
+-- What redo makes of a block that stands for a log, from its redo offset on or from before it, is what the log says.
+abbrev pub RedoBringsPagesUp : Type 0
+RedoBringsPagesUp = (gates : ℕ → ℕ) (history : History) (page version : ℕ) (slots : List Slot) (redo from : ℕ) → IsInOrder history → from ≤ redo
+    → StandsFor gates history page version slots redo
+    → page_redone gates from page history (record { version = version; slots = slots }) ≡ record { version = version_of history page; slots = page_of history page }
+
+-- So it is with a block of the inventory.
+pub record IsUp (history : History) (number : ℕ) (block : EntriesBlock) : Type 0 where
+  pub version_is : block.version ≡ block_version_of history number
+  pub entries_are : (index : ℕ) → index < BLOCK_PAGES → block.entries index ≡ entry_of history (BLOCK_PAGES * number + index)
+
+abbrev pub RedoBringsEntriesUp : Type 0
+RedoBringsEntriesUp = (gates : ℕ → ℕ) (history : History) (number version : ℕ) (entries : ℕ → ℕ) (redo from : ℕ) → IsInOrder history → from ≤ redo
+    → EntriesStandFor gates history number version entries redo
+    → IsUp history number (entries_redone gates from number history (record { version = version; entries = entries }))
 
 -- of a log in order the master names one checkpoint, or none
 abbrev pub CheckpointsAreOne : Type 0

@@ -4,4 +4,5 @@ pub mod Checkpoints
 pub mod Copies
 pub mod Whole
 pub mod Fronts
+pub mod Redo
 pub mod Laws

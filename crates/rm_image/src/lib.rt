@@ -4,7 +4,7 @@
 //! The crate has no code yet. The functions are laws: each ensures something of the definitions alone.
 #![tactic(auto)]
 
-ghost use Rattle.rm_image.specs.Laws.{DataBlocksAreOne, InventoryBlocksAreOne, BlocksHaveFronts, InventoryBlocksHaveFronts, GatesRise, CheckpointsAreOne, RedoPointIsLeast, FreshIsWhole};
+ghost use Rattle.rm_image.specs.Laws.{DataBlocksAreOne, InventoryBlocksAreOne, BlocksHaveFronts, InventoryBlocksHaveFronts, GatesRise, CheckpointsAreOne, RedoPointIsLeast, RedoBringsPagesUp, RedoBringsEntriesUp, FreshIsWhole};
 
 /// Where a block has its LSN, in eight bytes.
 pub const LSN_AT: u64 = 0;
@@ -65,6 +65,17 @@ pub fn a_master_names_one_checkpoint()
 /// Unless the file is being restored, no block's redo offset is before the redo point.
 pub fn no_redo_offset_is_before_the_redo_point()
     ensures { RedoPointIsLeast }
+{}
+
+/// What redo makes of a page's block that stands for a log, from its redo offset on or from before it, is
+/// the page of the log.
+pub fn redo_brings_pages_up()
+    ensures { RedoBringsPagesUp }
+{}
+
+/// So it is with a block of the inventory.
+pub fn redo_brings_entries_up()
+    ensures { RedoBringsEntriesUp }
 {}
 
 /// A volume that was just made is whole.
