@@ -1,15 +1,14 @@
 -- A block stands for a history just where it has a front of it.
-use Rattle.std.proofs.Common.{◌≡◌, ℕ, ◌+◌, ◌*◌, ◌/◌, ◌≤◌, ◌<◌, ◌==◌, ◌↔◌, Bool, true, false, cond, List, [], ◌∷◌, ◌++◌, refl, sym, ap, subst, ◌∙◌, arith}
+use Rattle.std.proofs.Common.{◌≡◌, ℕ, ◌+◌, ◌*◌, ◌/◌, ◌≤◌, ◌<◌, ◌==◌, Bool, true, false, cond, List, [], ◌∷◌, refl, sym, ap, ◌∙◌, arith}
 use Rattle.std.proofs.lemmas.Bool.{eq-eqb, ne_eqb}
 use Rattle.rm_types.specs.declared.slots.Slot.{Slot}
 use Rattle.rm_types.specs.declared.numbers.TheConstants.{BLOCK_PAGES}
 use Rattle.rm_history.specs.Acts.{Act, History, changes, undoes, enters, lsn_of, newest_lsn}
 use Rattle.rm_history.specs.Contents.{page_of, version_of, entry_of, block_version_of}
 use Rattle.rm_history.specs.Rules.{IsInOrder}
-use Rattle.rm_image.specs.Standing.{IsOnPage, IsInBlock, StandsFor, EntriesStandFor}
-use Rattle.rm_image.specs.Fronts.{HasFront, HasEntriesOfFront}
+use Rattle.rm_image.specs.Standing.{IsOnPage, IsInBlock, HoldsPage, HoldsEntries}
 use Rattle.rm_image.specs.Laws.{BlocksHaveFronts, InventoryBlocksHaveFronts}
-use Rattle.rm_image.proofs.FrontLemmas.{Stands, Front, IsBlock, front_of, stands_for_front}
+use Rattle.rm_image.proofs.FrontLemmas.{IsBlock, fronts}
 
 -- each of two numbers is within a bound: so is the one that is taken
 cond-le : (test : Bool) (a b bound : ℕ) → a ≤ bound → b ≤ bound → cond test a b ≤ bound
@@ -19,22 +18,18 @@ cond-le false a b bound first second = second
 -- ---- the block of a page
 
 module _ (page : ℕ) where
-  -- the records that are on the page
-  abbrev pub IsOn : Act → Type 0
-  IsOn act = IsOnPage act page
-
   -- a record on the page gives it its LSN as version, and any other leaves version and slots
-  version_on : (act : Act) (before : History) → IsOn act → version_of (act ∷ before) page ≡ lsn_of act
+  version_on : (act : Act) (before : History) → IsOnPage page act → version_of (act ∷ before) page ≡ lsn_of act
   version_on (changes c) before on = rw (eq-eqb c.rid.page page on) refl
   version_on (undoes u) before on = rw (eq-eqb u.rid.page page on) refl
   version_on other before on = absurd on
 
-  pub version_off : (act : Act) (before : History) → (IsOn act → ⊥) → version_of (act ∷ before) page ≡ version_of before page
+  pub version_off : (act : Act) (before : History) → (IsOnPage page act → ⊥) → version_of (act ∷ before) page ≡ version_of before page
   version_off (changes c) before off = rw (ne_eqb c.rid.page page off) refl
   version_off (undoes u) before off = rw (ne_eqb u.rid.page page off) refl
   version_off other before off = refl
 
-  pub page_off : (act : Act) (before : History) → (IsOn act → ⊥) → page_of (act ∷ before) page ≡ page_of before page
+  pub page_off : (act : Act) (before : History) → (IsOnPage page act → ⊥) → page_of (act ∷ before) page ≡ page_of before page
   page_off (changes c) before off = rw (ne_eqb c.rid.page page off) refl
   page_off (undoes u) before off = rw (ne_eqb u.rid.page page off) refl
   page_off other before off = refl
@@ -47,12 +42,8 @@ module _ (page : ℕ) where
   version_within (other ∷ before) ordered = omega (arith, version_within before ordered.0, ordered.1.above)
 
   module _ (gates : ℕ → ℕ) (version : ℕ) (slots : List Slot) (redo : ℕ) where
-    -- the block holds the page of a history
-    abbrev pub Holds : History → Type 0
-    Holds history = (version ≡ version_of history page) × (slots ≡ page_of history page)
-
-    -- so it is such a block
-    is_block : IsBlock Holds IsOn gates version redo
+    -- the block of which this is said is one of those of which fronts are shown
+    is_block : IsBlock (HoldsPage page version slots) (IsOnPage page) gates version redo
     is_block = record {
       stays = λ act before off holds. (holds.0 ∙ sym (version_off act before off), holds.1 ∙ sym (page_off act before off));
       was = λ act before off holds. (holds.0 ∙ version_off act before off, holds.1 ∙ page_off act before off);
@@ -60,43 +51,10 @@ module _ (page : ℕ) where
       within = λ history ordered holds. omega (arith, holds.0, version_within history ordered);
     }
 
-    -- the two ways of saying what it stands for, record by record
-    pub to_stands : (history : History) → StandsFor gates history page version slots redo → Stands Holds IsOn gates version redo history
-    to_stands [] stands = stands
-    to_stands (act ∷ before) stands = (stands.0, λ above. ((stands.1 above).0, to_stands before (stands.1 above).1))
-
-    from_stands : (history : History) → Stands Holds IsOn gates version redo history → StandsFor gates history page version slots redo
-    from_stands [] stands = stands
-    from_stands (act ∷ before) stands = (stands.0, λ above. ((stands.1 above).0, from_stands before (stands.1 above).1))
-
-    -- the two ways of saying which front it has
-    to_front : (history : History) → Front Holds IsOn gates version redo history → HasFront gates history page version slots redo
-    to_front history front = record {
-      newer = front.newer;
-      before = front.before;
-      split = front.split;
-      version_is = front.holds.0;
-      slots_are = front.holds.1;
-      lacks_none = front.lacks_none;
-    }
-
-    -- a block with a front stands for the history
-    from_front : (history : History) → IsInOrder history → HasFront gates history page version slots redo → StandsFor gates history page version slots redo
-    from_front history ordered front =
-        let parts_ordered : IsInOrder (front.newer ++ front.before) = subst IsInOrder front.split ordered in
-        let stands = stands_for_front Holds IsOn gates version redo is_block front.newer front.before parts_ordered (front.version_is, front.slots_are) front.lacks_none in
-        from_stands history (subst (Stands Holds IsOn gates version redo) (sym front.split) stands)
-
-    -- both directions
-    fronts : (history : History) → IsInOrder history → ((a b : ℕ) → a ≤ b → gates a ≤ gates b) → StandsFor gates history page version slots redo ↔ HasFront gates history page version slots redo
-    fronts history ordered rise = (
-      λ stands. to_front history (front_of Holds IsOn gates version redo is_block rise history ordered (to_stands history stands)),
-      from_front history ordered,
-    )
-
 -- what is said of a page's block record by record, and of a front, is one
 pub blocks_have_fronts : BlocksHaveFronts
-blocks_have_fronts gates history page version slots redo ordered rise = fronts page gates version slots redo history ordered rise
+blocks_have_fronts gates history page version slots redo ordered rise =
+    fronts (HoldsPage page version slots) (IsOnPage page) gates version redo (is_block page gates version slots redo) rise history ordered
 
 -- ---- a block of the inventory
 
@@ -105,20 +63,16 @@ block_of-page : (block index : ℕ) → index < BLOCK_PAGES → (BLOCK_PAGES * b
 block_of-page block index inside = omega arith
 
 module _ (block : ℕ) where
-  -- the records that are in the block
-  abbrev pub IsIn : Act → Type 0
-  IsIn act = IsInBlock act block
-
   -- a record in the block gives it its LSN as version, and any other leaves version and entries
-  block_version_on : (act : Act) (before : History) → IsIn act → block_version_of (act ∷ before) block ≡ lsn_of act
+  block_version_on : (act : Act) (before : History) → IsInBlock block act → block_version_of (act ∷ before) block ≡ lsn_of act
   block_version_on (enters e) before on = rw (eq-eqb (e.page / BLOCK_PAGES) block on) refl
   block_version_on other before on = absurd on
 
-  pub block_version_off : (act : Act) (before : History) → (IsIn act → ⊥) → block_version_of (act ∷ before) block ≡ block_version_of before block
+  pub block_version_off : (act : Act) (before : History) → (IsInBlock block act → ⊥) → block_version_of (act ∷ before) block ≡ block_version_of before block
   block_version_off (enters e) before off = rw (ne_eqb (e.page / BLOCK_PAGES) block off) refl
   block_version_off other before off = refl
 
-  pub entry_off : (act : Act) (before : History) → (IsIn act → ⊥) → (index : ℕ) → index < BLOCK_PAGES
+  pub entry_off : (act : Act) (before : History) → (IsInBlock block act → ⊥) → (index : ℕ) → index < BLOCK_PAGES
       → entry_of (act ∷ before) (BLOCK_PAGES * block + index) ≡ entry_of before (BLOCK_PAGES * block + index)
   entry_off (enters e) before off index inside =
       let other : e.page ≡ BLOCK_PAGES * block + index → ⊥ = λ same. off (ap (λ (n : ℕ). n / BLOCK_PAGES) same ∙ block_of-page block index inside) in
@@ -133,12 +87,8 @@ module _ (block : ℕ) where
   block_version_within (other ∷ before) ordered = omega (arith, block_version_within before ordered.0, ordered.1.above)
 
   module _ (gates : ℕ → ℕ) (version : ℕ) (entries : ℕ → ℕ) (redo : ℕ) where
-    -- the block holds the entries of a history
-    abbrev pub HoldsEntries : History → Type 0
-    HoldsEntries history = (version ≡ block_version_of history block) × ((index : ℕ) → index < BLOCK_PAGES → entries index ≡ entry_of history (BLOCK_PAGES * block + index))
-
-    -- so it is such a block
-    is_entries_block : IsBlock HoldsEntries IsIn gates version redo
+    -- the block of which this is said is one of those of which fronts are shown
+    is_entries_block : IsBlock (HoldsEntries block version entries) (IsInBlock block) gates version redo
     is_entries_block = record {
       stays = λ act before off holds. (
         holds.0 ∙ sym (block_version_off act before off),
@@ -152,41 +102,7 @@ module _ (block : ℕ) where
       within = λ history ordered holds. omega (arith, holds.0, block_version_within history ordered);
     }
 
-    -- the two ways of saying what it stands for, record by record
-    pub entries_to_stands : (history : History) → EntriesStandFor gates history block version entries redo → Stands HoldsEntries IsIn gates version redo history
-    entries_to_stands [] stands = stands
-    entries_to_stands (act ∷ before) stands = (stands.0, λ above. ((stands.1 above).0, entries_to_stands before (stands.1 above).1))
-
-    entries_from_stands : (history : History) → Stands HoldsEntries IsIn gates version redo history → EntriesStandFor gates history block version entries redo
-    entries_from_stands [] stands = stands
-    entries_from_stands (act ∷ before) stands = (stands.0, λ above. ((stands.1 above).0, entries_from_stands before (stands.1 above).1))
-
-    -- the two ways of saying which front it has
-    entries_to_front : (history : History) → Front HoldsEntries IsIn gates version redo history → HasEntriesOfFront gates history block version entries redo
-    entries_to_front history front = record {
-      newer = front.newer;
-      before = front.before;
-      split = front.split;
-      version_is = front.holds.0;
-      entries_are = front.holds.1;
-      lacks_none = front.lacks_none;
-    }
-
-    -- a block with a front stands for the history
-    entries_from_front : (history : History) → IsInOrder history → HasEntriesOfFront gates history block version entries redo → EntriesStandFor gates history block version entries redo
-    entries_from_front history ordered front =
-        let parts_ordered : IsInOrder (front.newer ++ front.before) = subst IsInOrder front.split ordered in
-        let stands = stands_for_front HoldsEntries IsIn gates version redo is_entries_block front.newer front.before parts_ordered (front.version_is, front.entries_are) front.lacks_none in
-        entries_from_stands history (subst (Stands HoldsEntries IsIn gates version redo) (sym front.split) stands)
-
-    -- both directions
-    entries_fronts : (history : History) → IsInOrder history → ((a b : ℕ) → a ≤ b → gates a ≤ gates b)
-        → EntriesStandFor gates history block version entries redo ↔ HasEntriesOfFront gates history block version entries redo
-    entries_fronts history ordered rise = (
-      λ stands. entries_to_front history (front_of HoldsEntries IsIn gates version redo is_entries_block rise history ordered (entries_to_stands history stands)),
-      entries_from_front history ordered,
-    )
-
 -- and so is what is said of a block of the inventory
 pub inventory_blocks_have_fronts : InventoryBlocksHaveFronts
-inventory_blocks_have_fronts gates history block version entries redo ordered rise = entries_fronts block gates version entries redo history ordered rise
+inventory_blocks_have_fronts gates history block version entries redo ordered rise =
+    fronts (HoldsEntries block version entries) (IsInBlock block) gates version redo (is_entries_block block gates version entries redo) rise history ordered

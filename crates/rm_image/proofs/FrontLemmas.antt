@@ -1,27 +1,14 @@
 -- A block that holds what a history says of it: what it lacks, said record by record and said of a front of the history, is one.
-use Rattle.std.proofs.Common.{◌≡◌, inl, inr, ℕ, ◌≤◌, ◌<◌, [], ◌∷◌, ◌++◌, refl, ap, arith}
+use Rattle.std.proofs.Common.{◌↔◌, inl, inr, ℕ, ◌≤◌, ◌<◌, [], ◌∷◌, ◌++◌, refl, sym, ap, subst, arith}
 use Rattle.std.proofs.lemmas.Bool.{cases_lt}
 use Rattle.std.specs.List.{AllByRecursion}
 use Rattle.rm_history.specs.Acts.{Act, History, lsn_of, newest_lsn}
 use Rattle.rm_history.specs.Rules.{IsInOrder}
+use Rattle.rm_image.specs.Standing.{Stands}
+use Rattle.rm_image.specs.Fronts.{Front}
 
 -- What it is that a block holds where it has a history, and which records set something in it.
 module _ (Holds : History → Type 0) (IsOn : Act → Type 0) (gates : ℕ → ℕ) (version redo : ℕ) where
-  -- the block stands for a history, said record by record
-  abbrev pub Stands : History → Type 0
-  Stands [] = Holds []
-  Stands (act ∷ before) =
-      (lsn_of act ≤ version → Holds (act ∷ before))
-      × (version < lsn_of act → (IsOn act → redo ≤ gates (lsn_of act)) × Stands before)
-
-  -- it holds a front of the history, and no newer record's gate is before the redo offset
-  pub record Front (history : History) : Type 0 where
-    pub newer : History
-    pub before : History
-    pub split : history ≡ newer ++ before
-    pub holds : Holds before
-    pub lacks_none : AllByRecursion (λ act. redo ≤ gates (lsn_of act)) newer
-
   -- What all such blocks have: only records that are on it change what it holds, and its version is that of one of them.
   pub record IsBlock : Type 0 where
     pub stays : (act : Act) (before : History) → (IsOn act → ⊥) → Holds before → Holds (act ∷ before)
@@ -32,7 +19,7 @@ module _ (Holds : History → Type 0) (IsOn : Act → Type 0) (gates : ℕ → �
   module _ (block : IsBlock) where
     -- where the newest record's gate is before the redo offset, the block holds the whole history
     early_is_held : ((a b : ℕ) → a ≤ b → gates a ≤ gates b) → (history : History) (newest : ℕ) → IsInOrder history → newest_lsn history ≤ newest → gates newest < redo
-        → Stands history → Holds history
+        → Stands Holds IsOn gates version redo history → Holds history
     early_is_held rise [] newest ordered top early stands = stands
     early_is_held rise (act ∷ before) newest ordered top early stands = elim (cases_lt version (lsn_of act)) [
       | inl above ↦
@@ -43,11 +30,11 @@ module _ (Holds : History → Type 0) (IsOn : Act → Type 0) (gates : ℕ → �
     ]
 
     -- the whole history is a front of it
-    whole : (history : History) → Holds history → Front history
+    whole : (history : History) → Holds history → Front Holds gates redo history
     whole history holds = record { newer = []; before = history; split = refl; holds = holds; lacks_none = tt }
 
     -- so is what is before a record that the block may lack
-    longer : (act : Act) (before : History) → redo ≤ gates (lsn_of act) → Front before → Front (act ∷ before)
+    longer : (act : Act) (before : History) → redo ≤ gates (lsn_of act) → Front Holds gates redo before → Front Holds gates redo (act ∷ before)
     longer act before late front = record {
       newer = act ∷ front.newer;
       before = front.before;
@@ -57,7 +44,7 @@ module _ (Holds : History → Type 0) (IsOn : Act → Type 0) (gates : ℕ → �
     }
 
     -- record by record there is a front
-    pub front_of : ((a b : ℕ) → a ≤ b → gates a ≤ gates b) → (history : History) → IsInOrder history → Stands history → Front history
+    front_of : ((a b : ℕ) → a ≤ b → gates a ≤ gates b) → (history : History) → IsInOrder history → Stands Holds IsOn gates version redo history → Front Holds gates redo history
     front_of rise [] ordered stands = whole [] stands
     front_of rise (act ∷ before) ordered stands = elim (cases_lt version (lsn_of act)) [
       | inl above ↦ elim (cases_lt (gates (lsn_of act)) redo) [
@@ -68,7 +55,7 @@ module _ (Holds : History → Type 0) (IsOn : Act → Type 0) (gates : ℕ → �
     ]
 
     -- a block that holds the whole history stands for it
-    stands_whole : (history : History) → Holds history → Stands history
+    stands_whole : (history : History) → Holds history → Stands Holds IsOn gates version redo history
     stands_whole [] holds = holds
     stands_whole (act ∷ before) holds = (
       λ has. holds,
@@ -83,10 +70,19 @@ module _ (Holds : History → Type 0) (IsOn : Act → Type 0) (gates : ℕ → �
     version_within (act ∷ newer) before ordered holds = omega (arith, version_within newer before ordered.0 holds, ordered.1.above)
 
     -- with a front the block stands for the history
-    pub stands_for_front : (newer before : History) → IsInOrder (newer ++ before) → Holds before → AllByRecursion (λ act. redo ≤ gates (lsn_of act)) newer
-        → Stands (newer ++ before)
+    stands_for_front : (newer before : History) → IsInOrder (newer ++ before) → Holds before → AllByRecursion (λ act. redo ≤ gates (lsn_of act)) newer
+        → Stands Holds IsOn gates version redo (newer ++ before)
     stands_for_front [] before ordered holds none = stands_whole before holds
     stands_for_front (act ∷ newer) before ordered holds none = (
       λ has. absurd (omega (arith, version_within newer before ordered.0 holds, ordered.1.above)),
       λ above. ((λ on. none.0), stands_for_front newer before ordered.0 holds none.1),
+    )
+
+    -- both directions
+    pub fronts : ((a b : ℕ) → a ≤ b → gates a ≤ gates b) → (history : History) → IsInOrder history → Stands Holds IsOn gates version redo history ↔ Front Holds gates redo history
+    fronts rise history ordered = (
+      front_of rise history ordered,
+      λ front.
+          let parts_ordered : IsInOrder (front.newer ++ front.before) = subst IsInOrder front.split ordered in
+          subst (Stands Holds IsOn gates version redo) (sym front.split) (stands_for_front front.newer front.before parts_ordered front.holds front.lacks_none),
     )

@@ -8,10 +8,10 @@ use Rattle.rm_model.specs.Pages.{set_slot}
 use Rattle.rm_history.specs.Acts.{Act, Entry, History, changes, undoes, enters, commits, ends, lists, lsn_of, newest_lsn}
 use Rattle.rm_history.specs.Contents.{page_of, version_of, entry_of, block_version_of}
 use Rattle.rm_history.specs.Rules.{IsInOrder}
+use Rattle.rm_image.specs.Standing.{Stands, IsOnPage, IsInBlock, HoldsEntries}
 use Rattle.rm_image.specs.Redo.{PageBlock, EntriesBlock, repeated, entry_repeated, is_due, redone}
 use Rattle.rm_image.specs.Laws.{RedoBringsPagesUp, RedoBringsEntriesUp}
-use Rattle.rm_image.proofs.FrontLemmas.{Stands}
-use Rattle.rm_image.proofs.FrontLaws.{IsOn, IsIn, HoldsEntries, to_stands, entries_to_stands, version_off, page_off, block_version_off, entry_off, version_within, block_version_within}
+use Rattle.rm_image.proofs.FrontLaws.{version_off, page_off, block_version_off, entry_off, version_within, block_version_within}
 
 -- ---- which records are due
 
@@ -94,7 +94,7 @@ module _ (page : ℕ) where
   page_goes_on (lists l) before block is = is
 
   -- redo may stand on that
-  page_redo : IsRedo PageBlock (λ b. b.version) (repeated page) IsPage (IsOn page)
+  page_redo : IsRedo PageBlock (λ b. b.version) (repeated page) IsPage (IsOnPage page)
   page_redo = record {
     goes_on = page_goes_on;
     stays = λ act before block off is. (is.0 ∙ sym (version_off page act before off), is.1 ∙ sym (page_off page act before off));
@@ -105,8 +105,8 @@ module _ (page : ℕ) where
 pub redo_brings_pages_up : RedoBringsPagesUp
 redo_brings_pages_up gates history page version slots redo from ordered le stands =
     let block : PageBlock = record { version = version; slots = slots } in
-    let up = brought_up PageBlock (λ b. b.version) (repeated page) (IsPage page) (IsOn page) gates redo from (page_redo page) le history block ordered
-    (to_stands page gates version slots redo history stands) in
+    let up = brought_up PageBlock (λ b. b.version) (repeated page) (IsPage page) (IsOnPage page) gates redo from (page_redo page) le history block ordered
+    stands in
     λ i. record { version = up.0 i; slots = up.1 i }
 
 -- ---- a block of the inventory
@@ -118,7 +118,7 @@ entry_set here category other old same = ap (λ (n : ℕ). cond here category n)
 module _ (number : ℕ) where
   -- the block holds what the history says of its pages
   abbrev AreEntries : EntriesBlock → History → Type 0
-  AreEntries block history = HoldsEntries number (λ lsn. 0) block.version block.entries 0 history
+  AreEntries block history = HoldsEntries number block.version block.entries history
 
   entered : (here : Bool) (e : Entry) (before : History) (block : EntriesBlock) → eqb (e.page / BLOCK_PAGES) number ≡ here → AreEntries block before
       → AreEntries (cond here (record { version = e.lsn; entries = λ index. cond (eqb e.page (BLOCK_PAGES * number + index)) e.category (block.entries index) }) block) (enters e ∷ before)
@@ -127,7 +127,7 @@ module _ (number : ℕ) where
     λ index inside. entry_set (eqb e.page (BLOCK_PAGES * number + index)) e.category (entry_of before (BLOCK_PAGES * number + index)) (block.entries index) (is.1 index inside),
   )
   entered false e before block is_here is =
-      let off : IsIn number (enters e) → ⊥ = λ on. let yes : eqb (e.page / BLOCK_PAGES) number ≡ true = eq-eqb (e.page / BLOCK_PAGES) number on in cc in
+      let off : IsInBlock number (enters e) → ⊥ = λ on. let yes : eqb (e.page / BLOCK_PAGES) number ≡ true = eq-eqb (e.page / BLOCK_PAGES) number on in cc in
       (is.0 ∙ sym (block_version_off number (enters e) before off), λ index inside. is.1 index inside ∙ sym (entry_off number (enters e) before off index inside))
 
   entries_go_on : (act : Act) (before : History) (block : EntriesBlock) → AreEntries block before → AreEntries (entry_repeated number act block) (act ∷ before)
@@ -139,7 +139,7 @@ module _ (number : ℕ) where
   entries_go_on (lists l) before block is = is
 
   -- redo may stand on that
-  entries_redo : IsRedo EntriesBlock (λ b. b.version) (entry_repeated number) AreEntries (IsIn number)
+  entries_redo : IsRedo EntriesBlock (λ b. b.version) (entry_repeated number) AreEntries (IsInBlock number)
   entries_redo = record {
     goes_on = entries_go_on;
     stays = λ act before block off is. (
@@ -153,6 +153,6 @@ module _ (number : ℕ) where
 pub redo_brings_entries_up : RedoBringsEntriesUp
 redo_brings_entries_up gates history number version entries redo from ordered le stands =
     let block : EntriesBlock = record { version = version; entries = entries } in
-    let up = brought_up EntriesBlock (λ b. b.version) (entry_repeated number) (AreEntries number) (IsIn number) gates redo from (entries_redo number) le history block ordered
-    (entries_to_stands number gates version entries redo history stands) in
+    let up = brought_up EntriesBlock (λ b. b.version) (entry_repeated number) (AreEntries number) (IsInBlock number) gates redo from (entries_redo number) le history block ordered
+    stands in
     record { version_is = up.0; entries_are = up.1 }

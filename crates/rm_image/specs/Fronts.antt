@@ -1,24 +1,21 @@
 -- What a block stands for, said of the front of the log that it has. It is the same (Laws).
-use Rattle.std.specs.Prelude.{◌≡◌, ℕ, ◌*◌, ◌+◌, ◌≤◌, ◌<◌, ◌++◌, List}
+use Rattle.std.specs.Prelude.{◌≡◌, ℕ, ◌≤◌, ◌++◌, List}
 use Rattle.std.specs.List.{AllByRecursion}
 use Rattle.rm_types.specs.declared.slots.Slot.{Slot}
-use Rattle.rm_types.specs.declared.numbers.TheConstants.{BLOCK_PAGES}
 use Rattle.rm_history.specs.Acts.{History, lsn_of}
-use Rattle.rm_history.specs.Contents.{page_of, version_of, entry_of, block_version_of}
+use Rattle.rm_image.specs.Standing.{HoldsPage, HoldsEntries}
 
--- The block has the page of a front of the log, which lacks no record of a batch from before the redo offset.
-pub record HasFront (gates : ℕ → ℕ) (history : History) (page version : ℕ) (slots : List Slot) (redo : ℕ) : Type 0 where
+-- A block holds what a front of the history says of it, and the front lacks no record of a batch from before the redo offset.
+pub record Front (Holds : History → Type 0) (gates : ℕ → ℕ) (redo : ℕ) (history : History) : Type 0 where
   pub newer : History
   pub before : History
   pub split : history ≡ newer ++ before
-  pub version_is : version ≡ version_of before page
-  pub slots_are : slots ≡ page_of before page
+  pub holds : Holds before
   pub lacks_none : AllByRecursion (λ act. redo ≤ gates (lsn_of act)) newer
 
-pub record HasEntriesOfFront (gates : ℕ → ℕ) (history : History) (block version : ℕ) (entries : ℕ → ℕ) (redo : ℕ) : Type 0 where
-  pub newer : History
-  pub before : History
-  pub split : history ≡ newer ++ before
-  pub version_is : version ≡ block_version_of before block
-  pub entries_are : (index : ℕ) → index < BLOCK_PAGES → entries index ≡ entry_of before (BLOCK_PAGES * block + index)
-  pub lacks_none : AllByRecursion (λ act. redo ≤ gates (lsn_of act)) newer
+-- so a page's block has a front, and a block of the inventory
+abbrev pub HasFront : (ℕ → ℕ) → History → ℕ → ℕ → List Slot → ℕ → Type 0
+HasFront gates history page version slots redo = Front (HoldsPage page version slots) gates redo history
+
+abbrev pub HasEntriesOfFront : (ℕ → ℕ) → History → ℕ → ℕ → (ℕ → ℕ) → ℕ → Type 0
+HasEntriesOfFront gates history block version entries redo = Front (HoldsEntries block version entries) gates redo history
