@@ -17,6 +17,7 @@ pub mod NetLaws
 pub mod WinnerLaws
 pub mod NeedSums
 pub mod NeedChains
+pub mod RoomLaws
 pub mod UndoTheorem
 pub mod Rollbacks
 pub mod AllPending

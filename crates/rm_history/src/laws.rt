@@ -1,6 +1,6 @@
 //! What holds of all histories: functions without code, whose contracts are laws.
 
-ghost use Rattle.rm_history.specs.Laws.{LogsAreOne, ActsTellRecords, NeedsGoOn, UndoesAreInOrder, SettledWhenNothingIsPending, EmptyIsLegal, FrontsAreInOrder, LegalFronts, LegalIsInOrder, PendingIsChained, PendingIsOfOne, PagesHoldWhatIsPending, PagesHoldWhatIsCommitted, NoUndoLacksRoom, RollbacksAreLegal, RestartsAreLegal, RestartsAreThere, UndoBytesGoDown, NetIsPending, RowsAreOfWinners, NeedIsTheMost};
+ghost use Rattle.rm_history.specs.Laws.{LogsAreOne, ActsTellRecords, NeedsGoOn, FittingIsRoom, UndoesAreInOrder, SettledWhenNothingIsPending, EmptyIsLegal, FrontsAreInOrder, LegalFronts, LegalIsInOrder, PendingIsChained, PendingIsOfOne, PagesHoldWhatIsPending, PagesHoldWhatIsCommitted, NoUndoLacksRoom, RollbacksAreLegal, RestartsAreLegal, RestartsAreThere, UndoBytesGoDown, NetIsPending, RowsAreOfWinners, NeedIsTheMost};
 
 /// An area has one log.
 pub fn an_area_has_one_log()
@@ -105,4 +105,9 @@ pub fn nothing_pending_means_settled()
 /// A need goes on by what a change gives up and takes, and back behind its undo; a finished transaction needs nothing.
 pub fn needs_go_on()
     ensures { NeedsGoOn }
+{}
+
+/// A row that fits is one that leaves each page room for all undo, and a delete always does.
+pub fn what_fits_leaves_room()
+    ensures { FittingIsRoom }
 {}

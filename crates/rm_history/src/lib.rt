@@ -17,6 +17,7 @@ pub use laws::{
     nothing_pending_means_settled, pending_changes_are_a_chain,
     pending_changes_of_a_row_id_are_of_one_transaction, restart_is_legal,
     rows_are_those_of_the_winners, undo_bytes_go_down, what_a_legal_history_had_before_is_legal,
+    what_fits_leaves_room,
 };
 
 /// The bytes of a batch before its records: the gate byte and the length.
