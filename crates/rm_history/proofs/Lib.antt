@@ -24,3 +24,8 @@ pub mod AllPending
 pub mod Losers
 pub mod Restarts
 pub mod UndoBytes
+mod ExampleLogs
+mod NeedExamples
+mod RoomExamples
+mod SlotExamples
+mod UndoExamples
