@@ -1,5 +1,5 @@
 -- Small logs, for the examples.
-use Rattle.std.specs.Prelude.{ℕ, List, [], ◌∷◌, replicate}
+use Rattle.std.specs.Prelude.{ℕ, [], ◌∷◌, replicate}
 use Rattle.rm_types.specs.declared.numbers.Rid.{Rid}
 use Rattle.rm_types.specs.declared.slots.Slot.{Slot}
 use Rattle.rm_types.specs.declared.slots.Slot.TheVariants.{Vacant, Row}
@@ -72,9 +72,9 @@ pending = insert 128 1 5 (at 0 1) 0 3900 ∷ insert 5 1 0 (at 0 0) 0 100 ∷ []
 abbrev pub one_deleted : History
 one_deleted = delete 4071 2 0 (at 0 0) 0 2000 ∷ commit 4061 1 ∷ enter 4051 1 0 3 ∷ insert 2028 1 5 (at 0 1) 0 2000 ∷ insert 5 1 0 (at 0 0) 0 2000 ∷ []
 
--- transaction 1 commits rows of 100 and 200 bytes, and 2 and 3 delete one each
+-- transaction 1 commits rows of 100 and 200 bytes, and 3 deletes the 200 before 2 deletes the 100
 abbrev pub each_deleted : History
-each_deleted = delete 484 3 0 (at 0 1) 0 200 ∷ delete 361 2 0 (at 0 0) 0 100 ∷ commit 351 1 ∷ insert 128 1 5 (at 0 1) 0 200 ∷ insert 5 1 0 (at 0 0) 0 100 ∷ []
+each_deleted = delete 584 2 0 (at 0 0) 0 100 ∷ delete 361 3 0 (at 0 1) 0 200 ∷ commit 351 1 ∷ insert 128 1 5 (at 0 1) 0 200 ∷ insert 5 1 0 (at 0 0) 0 100 ∷ []
 
 -- ---- logs of what restart undoes
 
@@ -104,3 +104,11 @@ stays_behind = commit 1214 3 ∷ insert 1091 3 0 (at 0 2) 0 100 ∷ enter 1081 2
 -- transaction 1 has 500 and 600 bytes pending, and the category that the page has with both
 abbrev pub two_pending : History
 two_pending = enter 1151 1 0 1 ∷ insert 528 1 5 (at 0 1) 0 600 ∷ insert 5 1 0 (at 0 0) 0 500 ∷ []
+
+-- transaction 1 has two rows of 1,100 bytes pending, and the category that the page has with both
+abbrev pub two_long_pending : History
+two_long_pending = enter 2251 1 0 2 ∷ insert 1128 1 5 (at 0 1) 0 1100 ∷ insert 5 1 0 (at 0 0) 0 1100 ∷ []
+
+-- transaction 1 has 1,100 and 100 bytes pending, and no category yet
+abbrev pub not_entered : History
+not_entered = insert 1128 1 5 (at 0 1) 0 100 ∷ insert 5 1 0 (at 0 0) 0 1100 ∷ []

@@ -1,5 +1,5 @@
 -- The definitions of which rows fit, on examples.
-use Rattle.std.proofs.Common.{◌≡◌, ◌≤◌, refl, arith, lit≤}
+use Rattle.std.proofs.Common.{◌≡◌, refl, arith, lit≤}
 use Rattle.rm_model.specs.Pages.{used}
 use Rattle.rm_history.specs.Contents.{page_of}
 use Rattle.rm_history.specs.Room.{RowFits, GrowthFits}

@@ -1,5 +1,5 @@
 -- The definitions of which slot a row is put in, and on which pages it is looked for, on examples.
-use Rattle.std.proofs.Common.{◌≡◌, ℕ, ◌<◌, List, [], ◌∷◌, refl, arith, lit<}
+use Rattle.std.proofs.Common.{◌≡◌, ℕ, ◌<◌, [], ◌∷◌, refl, arith, lit<}
 use Rattle.rm_types.specs.declared.formats.Format.TheVariants.{One}
 use Rattle.rm_types.specs.declared.slots.Slot.TheVariants.{Vacant}
 use Rattle.rm_model.specs.Pages.{used}

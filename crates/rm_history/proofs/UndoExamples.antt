@@ -1,10 +1,10 @@
 -- The definitions of what restart undoes and of the bytes of that, on examples.
-use Rattle.std.proofs.Common.{◌≡◌, List, [], ◌∷◌, refl}
+use Rattle.std.proofs.Common.{◌≡◌, [], ◌∷◌, refl}
 use Rattle.rm_types.specs.declared.formats.Format.TheVariants.{One}
 use Rattle.rm_model.specs.Pages.{used}
 use Rattle.rm_history.specs.Contents.{page_of}
 use Rattle.rm_history.specs.Undoing.{losers_of, undo_bytes}
-use Rattle.rm_history.proofs.ExampleLogs.{deleted, undone, ended, the_last_first, in_turn, falls_behind, stays_behind, two_pending}
+use Rattle.rm_history.proofs.ExampleLogs.{deleted, undone, ended, the_last_first, in_turn, falls_behind, stays_behind, two_pending, two_long_pending, not_entered}
 
 -- ---- losers
 
@@ -45,3 +45,11 @@ bytes_without_entry = (refl, refl)
 -- behind the first of two undos the entry is right for the second: one record of it (15), two compensations (33 each), and the end (10)
 bytes_of_two : undo_bytes One two_pending ≡ 91
 bytes_of_two = refl
+
+-- where each of two undos lowers the category: two records of it
+bytes_of_two_long : (used (page_of two_long_pending 0) ≡ 2208) × (undo_bytes One two_long_pending ≡ 106)
+bytes_of_two_long = (refl, refl)
+
+-- behind the first undo a category that was not entered yet is, and behind the second the one without the rows: two records too
+bytes_of_not_entered : (used (page_of not_entered 0) ≡ 1208) × (undo_bytes One not_entered ≡ 106)
+bytes_of_not_entered = (refl, refl)
