@@ -15,13 +15,15 @@ row len = Row (replicate len 97)
 abbrev pub at : (page slot : ℕ) → Rid
 at page slot = record { page = page; slot = slot }
 
--- a row inserted, deleted, and updated: where its record is, whose it is, which pending record is below it, and its row id, need and length
+-- a row inserted: where its record is, whose it is, which pending record is below it, and its row id, need and length
 abbrev pub insert : (lsn txn under : ℕ) → Rid → (need len : ℕ) → Act
 insert lsn txn under rid need len = changes (record { lsn = lsn; txn = txn; under = under; rid = rid; need = need; before = Vacant; after = row len })
 
+-- a row deleted
 abbrev pub delete : (lsn txn under : ℕ) → Rid → (need len : ℕ) → Act
 delete lsn txn under rid need len = changes (record { lsn = lsn; txn = txn; under = under; rid = rid; need = need; before = row len; after = Vacant })
 
+-- a row put in place of another
 abbrev pub update : (lsn txn under : ℕ) → Rid → (need old new : ℕ) → Act
 update lsn txn under rid need old new = changes (record { lsn = lsn; txn = txn; under = under; rid = rid; need = need; before = row old; after = row new })
 
@@ -33,10 +35,11 @@ undo lsn txn undone next rid = undoes (record { lsn = lsn; txn = txn; undone = u
 abbrev pub enter : (lsn txn page category : ℕ) → Act
 enter lsn txn page category = enters (record { lsn = lsn; txn = txn; page = page; category = category })
 
--- a commit, and an end
+-- a commit
 abbrev pub commit : (lsn txn : ℕ) → Act
 commit lsn txn = commits (record { lsn = lsn; txn = txn })
 
+-- the end of a rollback
 abbrev pub end : (lsn txn : ℕ) → Act
 end lsn txn = ends (record { lsn = lsn; txn = txn })
 
@@ -78,10 +81,11 @@ each_deleted = delete 584 2 0 (at 0 0) 0 100 ∷ delete 361 3 0 (at 0 1) 0 200 �
 
 -- ---- logs of what restart undoes
 
--- transaction 2 inserts a row and undoes that, and then ends too
+-- transaction 2 inserts a row and undoes that
 abbrev pub undone : History
 undone = undo 29 2 5 0 (at 0 0) ∷ insert 5 2 0 (at 0 0) 0 1 ∷ []
 
+-- and it ends
 abbrev pub ended : History
 ended = end 57 2 ∷ undone
 

@@ -75,10 +75,10 @@ another_grows = (refl, lit≤ tt)
 another_grows_too_far : GrowthFits one_deleted 3 0 73 → ⊥
 another_grows_too_far fits = omega (arith, fits)
 
--- the deleter's own row grows into that need
+-- the deleter's own row grows into that need, up to the whole page,
 own_grows : GrowthFits one_deleted 2 0 2072
 own_grows = lit≤ tt
 
--- up to the whole page too
+-- and by no byte more
 own_grows_too_far : GrowthFits one_deleted 2 0 2073 → ⊥
 own_grows_too_far fits = omega (arith, fits)

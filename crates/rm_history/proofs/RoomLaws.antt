@@ -96,10 +96,11 @@ need_past history page txn past = ap (λ (all : List Change). need_for (on_page 
 
 -- ---- one change more
 
--- the bytes that the change's page has in use with it, and those that its transaction then needs there
+-- the bytes that the change's page has in use with it
 abbrev bytes_with : History → Change → ℕ
 bytes_with before c = used (set_slot (page_of before c.rid.page) c.rid.slot c.after)
 
+-- and those that its transaction's undo then needs there
 abbrev need_with : History → Change → ℕ
 need_with before c = need_of (changes c ∷ before) c.txn c.rid.page
 
