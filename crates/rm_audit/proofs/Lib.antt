@@ -8,6 +8,7 @@ pub mod Kept
 pub mod Newest
 pub mod OnPage
 pub mod Pendings
+pub mod NeedMaps
 pub mod Places
 pub mod Room
 pub mod Sums

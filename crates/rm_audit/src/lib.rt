@@ -21,7 +21,7 @@ mod verdicts;
 
 pub use audits::audit;
 pub use changes::Change;
-pub use needs::need;
+pub use needs::{need, needs_on};
 pub use pages::{entry, page, version};
 pub use pending::{all_pending, pending_changes};
 pub use rows::{committed_rows, row};

@@ -1,6 +1,6 @@
 //! The bytes that undo may need on a page.
 
-ghost use Rattle.std.specs.Prelude.{◌≡◌, ℕ, ◌+◌, ◌*◌, ◌≤◌, ◌^◌, List, [], ◌∷◌, reverse, IsTrue, ◌↔◌, IfOk, MatchOption};
+ghost use Rattle.std.specs.Prelude.{◌≡◌, ℕ, ◌+◌, ◌*◌, ◌≤◌, ◌^◌, List, [], ◌∷◌, reverse, IsTrue, ◌↔◌, IfOk, OnOk, MatchOption};
 ghost use Rattle.rm_types.specs.declared.rows.TheConstants.{MAX_ROW};
 ghost use Rattle.rm_types.specs.declared.slots.TheConstants.{CAPACITY};
 ghost use Rattle.rm_model.specs.Pages.{used as used_by};
@@ -8,6 +8,7 @@ ghost use Rattle.rm_history.specs.Acts.{Change as Changes, acts_of};
 ghost use Rattle.rm_history.specs.Contents.{page_of};
 ghost use Rattle.rm_history.specs.Needs.{need_of, sum_below};
 ghost use Rattle.rm_audit.specs.Parts.{need_in, IsLed};
+ghost use Rattle.rm_audit.specs.NeedMaps.{need_at, HasNeeds};
 
 use crate::changes::Change;
 use crate::pages::{page, used};
@@ -16,6 +17,7 @@ use crate::slots::bytes_in;
 use rm_record::Logged;
 use rm_types::{CAPACITY, NoMemory, TxnId};
 use std::alloc::Global;
+use std::collections::BTreeMap;
 
 // What a transaction's undo needs on a page, with one pending change more above the others.
 fn need_step(need: u128, change: &Change, txn: TxnId, page: u32) -> u128
@@ -74,6 +76,39 @@ fn needs_fit(mut left: Vec<Change>, page: u32, mut room: u128) -> bool
         remove_of(&mut left, txn);
     }
     true
+}
+
+// Has this need of a transaction.
+fn put(needs: &mut BTreeMap<TxnId, u128>, txn: TxnId, need: u128) -> Result<(), NoMemory>
+    ensures here { OnOk result (need_at needs.new txn.0 ≡ need) }
+    ensures others { OnOk result ((other : ℕ) → (other ≡ txn.0 → ⊥) → need_at needs.new other ≡ need_at needs.old other) }
+{
+    needs.insert(txn, need)?;
+    Ok(())
+}
+
+// What the undo of each transaction needs on a page, where these changes are all that is pending, the oldest first.
+fn needs_among(
+    alloc: Global,
+    mut left: Vec<Change>,
+    page: u32,
+) -> Result<BTreeMap<TxnId, u128>, NoMemory>
+    ensures { IfOk result (λ needs. HasNeeds needs (need_in (reverse left.items) page)) }
+{
+    let mut needs = BTreeMap::new(alloc);
+    while let Some(txn) = last_txn(&left) {
+        put(&mut needs, txn, need_among(&left, txn, page))?;
+        remove_of(&mut left, txn);
+    }
+    Ok(needs)
+}
+
+/// The bytes that undo may need on a page, of each transaction that has a pending change anywhere, in order of ids.
+pub fn needs_on(alloc: Global, log: &[Logged], page: u32) -> Result<BTreeMap<TxnId, u128>, NoMemory>
+    ensures { IfOk result (λ needs. HasNeeds needs (λ txn. need_of (acts_of log.now) txn page)) }
+{
+    let pending = all_pending(alloc, log)?;
+    Ok(needs_among(alloc, pending, page)?)
 }
 
 /// Whether a page has room for what it holds and for what all transactions' undo needs there.

@@ -8,8 +8,8 @@ use super::logs::{
 use crate::pages::used;
 use crate::slots::{are_same, holds};
 use crate::{
-    Verdict, all_pending, audit, committed_rows, entry, has_record, is_finished, need, page,
-    pending_changes, row, version,
+    Verdict, all_pending, audit, committed_rows, entry, has_record, is_finished, need, needs_on,
+    page, pending_changes, row, version,
 };
 use rm_record::Logged;
 use rm_types::{Format, Lsn, Rid, Row, Slot, TxnId};
@@ -34,10 +34,13 @@ fn check_front(rt: &impl Abort, alloc: Global, log: &[Logged], due: Page) -> Res
     assert_eq!(rt; audit(alloc, Format::One, log)?, Verdict::Legal, "{count}");
     assert_eq!(rt; used(&page(alloc, log, 0)?), bytes, "{count}");
     assert_eq!(rt; entry(log, 0), category, "{count}");
+    let all = needs_on(alloc, log, 0)?;
     for txn in 1..5 {
+        let due = need_in(needs, txn);
+        assert_eq!(rt; need(alloc, log, TxnId(txn), 0)?, due, "{count} {txn}");
         assert_eq!(rt;
-            need(alloc, log, TxnId(txn), 0)?,
-            need_in(needs, txn),
+            all.get(&TxnId(txn)).copied().unwrap_or(0),
+            due,
             "{count} {txn}"
         );
     }
