@@ -2,7 +2,7 @@
 use Rattle.std.proofs.Common.{◌≡◌, ◌<◌, [], ◌∷◌, ◌++◌, refl, inl, inr}
 use Rattle.rm_types.specs.declared.formats.Format.{Format}
 use Rattle.rm_history.specs.Acts.{Act, Change, Undo, History, undoes, lsn_of, newest_lsn}
-use Rattle.rm_history.specs.Pending.{IsFinished}
+use Rattle.rm_history.specs.Transactions.{IsFinished}
 use Rattle.rm_history.specs.Needs.{Fits}
 use Rattle.rm_history.specs.Rules.{IsLast, MayCome}
 use Rattle.rm_history.specs.Legal.{IsEntered, EntriesFollow}

@@ -4,7 +4,7 @@ use Rattle.std.proofs.lemmas.List.{take_more, take-append-drop}
 use Rattle.rm_types.specs.declared.numbers.Rid.{Rid}
 use Rattle.rm_record.specs.declared.records.Logged.{Logged}
 use Rattle.rm_history.specs.Acts.{Act, History, changes, undoes, enters, commits, ends, lists, act_of, acts_onto, acts_of}
-use Rattle.rm_history.specs.Pending.{HasRecord, HasChange}
+use Rattle.rm_history.specs.Transactions.{HasRecord, HasChange}
 
 -- a record behind a log is the newest of its history
 pub acts_onto-push : (history : History) (log : List Logged) (newest : Logged) → acts_onto history (log ++ newest ∷ []) ≡ act_of newest ∷ acts_onto history log

@@ -4,7 +4,8 @@ ghost use Rattle.std.specs.Prelude.{◌≡◌, ℕ, ◌<◌, List, IsTrue, ◌�
 ghost use Rattle.rm_types.specs.declared.formats.Format.{Format as Formats};
 ghost use Rattle.rm_types.specs.declared.places.Place.{Place as Places};
 ghost use Rattle.rm_history.specs.Acts.{lists, acts_of};
-ghost use Rattle.rm_history.specs.Pending.{last_of, pending_of, IsFinished, HasRecord};
+ghost use Rattle.rm_history.specs.Pending.{last_of, pending_of};
+ghost use Rattle.rm_history.specs.Transactions.{IsFinished, HasRecord};
 ghost use Rattle.rm_history.specs.Rules.{IsIn, MayList};
 ghost use Rattle.rm_audit.specs.Parts.{IsNamed};
 ghost use Rattle.rm_audit.specs.Verdicts.{coming_of, IsFound};

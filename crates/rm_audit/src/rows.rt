@@ -5,7 +5,7 @@ ghost use Rattle.rm_model.specs.Pages.{row_of};
 ghost use Rattle.rm_model.specs.Object.{Rows as AllRows};
 ghost use Rattle.rm_types.specs.declared.slots.Slot.{Slot as Slots};
 ghost use Rattle.rm_history.specs.Acts.{act_of, acts_of};
-ghost use Rattle.rm_history.specs.Pending.{with_slot, applied, rows_of_log};
+ghost use Rattle.rm_history.specs.Rows.{with_slot, applied, rows_of_log};
 ghost use Rattle.rm_audit.specs.Rows.{HasRows};
 
 use crate::changes::Change;

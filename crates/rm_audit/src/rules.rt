@@ -3,7 +3,8 @@
 ghost use Rattle.std.specs.Prelude.{◌≡◌, ℕ, IfOk};
 ghost use Rattle.rm_types.specs.declared.formats.Format.{Format as Formats};
 ghost use Rattle.rm_history.specs.Acts.{changes, undoes, enters, commits, ends, acts_of};
-ghost use Rattle.rm_history.specs.Pending.{last_of, pending_of, IsFinished};
+ghost use Rattle.rm_history.specs.Pending.{last_of, pending_of};
+ghost use Rattle.rm_history.specs.Transactions.{IsFinished};
 ghost use Rattle.rm_history.specs.Rules.{MayChange, MayUndo, MayEnter, MayEnd};
 ghost use Rattle.rm_audit.specs.Verdicts.{coming_of, IsFound};
 

@@ -2,7 +2,7 @@
 
 ghost use Rattle.std.specs.Prelude.{◌≡◌, ℕ, ◌∷◌, ◌⊎◌, Some, IfSome, MatchOption, IsTrue, ◌↔◌};
 ghost use Rattle.rm_history.specs.Acts.{History, act_of, acts_of};
-ghost use Rattle.rm_history.specs.Pending.{IsFinished, HasRecord, HasChange};
+ghost use Rattle.rm_history.specs.Transactions.{IsFinished, HasRecord, HasChange};
 
 use rm_record::{LogRecord, Logged};
 use rm_types::{Rid, TxnId};

@@ -17,7 +17,8 @@ use Rattle.rm_record.specs.Records.{spelling, spelling_all, IsRecord}
 use Rattle.rm_history.specs.declared.TheConstants.{BATCH_HEADER}
 use Rattle.rm_history.specs.Logs.{Batch, gate_of, HasLog}
 use Rattle.rm_history.specs.Acts.{act_at, newest_lsn}
-use Rattle.rm_history.specs.Pending.{rows_of_log, commit_count}
+use Rattle.rm_history.specs.Rows.{rows_of_log}
+use Rattle.rm_history.specs.Counts.{commit_count}
 use Rattle.rm_history.specs.Batched.{acts_of_batches}
 use Rattle.rm_history.proofs.Behind.{acts_behind-snoc, newest_below, newest_of_batches}
 use Rattle.rm_wal.specs.Tails.{LogValue, end_of}

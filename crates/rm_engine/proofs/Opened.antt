@@ -9,7 +9,9 @@ use Rattle.rm_model.specs.Pages.{row_at, set_slot}
 use Rattle.rm_model.specs.Session.{page_at, rows_of}
 use Rattle.rm_history.specs.Acts.{Change, History, changes, undoes, enters, commits, ends, lists}
 use Rattle.rm_history.specs.Contents.{page_of}
-use Rattle.rm_history.specs.Pending.{pending_of, rows_of_log, commit_count}
+use Rattle.rm_history.specs.Pending.{pending_of}
+use Rattle.rm_history.specs.Rows.{rows_of_log}
+use Rattle.rm_history.specs.Counts.{commit_count}
 use Rattle.rm_history.specs.Rules.{IsInOrder}
 use Rattle.rm_history.specs.Laws.{IsChanged}
 use Rattle.rm_history.specs.Batched.{acts_of_batches, AreBelow}

@@ -17,7 +17,9 @@ use Rattle.rm_model.proofs.Runs.{rows_of-set_row}
 use Rattle.rm_record.specs.declared.records.LogRecord.TheVariants.{Insert, Commit}
 use Rattle.rm_history.specs.Acts.{Change, History, changes, undoes, enters, commits, ends, lists, act_at, newest_lsn}
 use Rattle.rm_history.specs.Contents.{page_of}
-use Rattle.rm_history.specs.Pending.{pending_of, last_of, applied, rows_of_log, greatest_txn, IsFinished}
+use Rattle.rm_history.specs.Pending.{pending_of, last_of}
+use Rattle.rm_history.specs.Transactions.{greatest_txn, IsFinished}
+use Rattle.rm_history.specs.Rows.{applied, rows_of_log}
 use Rattle.rm_history.specs.Rules.{MayChange, IsInOrder}
 use Rattle.rm_history.proofs.PendingLaws.{changed_inside}
 use Rattle.rm_restart.specs.Plain.{ArePlain}

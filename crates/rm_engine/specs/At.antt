@@ -15,7 +15,10 @@ use Rattle.rm_history.specs.declared.TheConstants.{BATCH_HEADER}
 use Rattle.rm_history.specs.Logs.{Batch, gate_of}
 use Rattle.rm_history.specs.Acts.{History}
 use Rattle.rm_history.specs.Contents.{page_of}
-use Rattle.rm_history.specs.Pending.{pending_of, last_of, applied, rows_of_log, commit_count, greatest_txn, IsFinished}
+use Rattle.rm_history.specs.Pending.{pending_of, last_of}
+use Rattle.rm_history.specs.Transactions.{greatest_txn, IsFinished}
+use Rattle.rm_history.specs.Rows.{applied, rows_of_log}
+use Rattle.rm_history.specs.Counts.{commit_count}
 use Rattle.rm_history.specs.Rules.{IsInOrder}
 use Rattle.rm_history.specs.Batched.{acts_behind, acts_of_batches, AreBelow}
 use Rattle.rm_restart.specs.Plain.{ArePlain}

@@ -6,7 +6,8 @@ use Rattle.rm_types.specs.declared.slots.Slot.{Slot}
 use Rattle.rm_model.specs.Pages.{row_of}
 use Rattle.rm_history.specs.Acts.{Change, Undo, Finish, History, changes, undoes, commits, ends}
 use Rattle.rm_history.specs.Contents.{slot_at, page_of}
-use Rattle.rm_history.specs.Pending.{older, pending_of, rows_of_log}
+use Rattle.rm_history.specs.Pending.{older, pending_of}
+use Rattle.rm_history.specs.Rows.{rows_of_log}
 use Rattle.rm_history.specs.Rules.{MayChange, MayUndo, MayEnd, IsInOrder}
 use Rattle.rm_history.specs.Laws.{IsChanged}
 use Rattle.rm_history.proofs.PendingSteps.{cases_rid, pending-change, pending-change_other, pending-undo, pending-undo_other, pending-commit, pending-commit_other, pending-end_other, if_equal, slot_at-put, slot_at-put_other}

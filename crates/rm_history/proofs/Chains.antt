@@ -3,7 +3,9 @@ use Rattle.std.proofs.Common.{◌≡◌, inl, inr, ℕ, ◌<◌, List, [], ◌�
 use Rattle.rm_types.specs.declared.numbers.Rid.{Rid}
 use Rattle.rm_history.specs.Acts.{Change, History, changes, undoes, enters, commits, ends, lists}
 use Rattle.rm_history.specs.Contents.{slot_at, page_of}
-use Rattle.rm_history.specs.Pending.{pending_of, rows_of_log, IsFinished}
+use Rattle.rm_history.specs.Pending.{pending_of}
+use Rattle.rm_history.specs.Transactions.{IsFinished}
+use Rattle.rm_history.specs.Rows.{rows_of_log}
 use Rattle.rm_history.specs.Rules.{IsInOrder}
 use Rattle.rm_history.specs.Laws.{IsChanged}
 use Rattle.rm_history.proofs.PendingLaws.{AreOf, pending_are_of, changed_has_change, changed_unfinished, changed_inside}

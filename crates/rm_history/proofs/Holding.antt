@@ -6,7 +6,8 @@ use Rattle.rm_types.specs.declared.slots.Slot.TheVariants.{Vacant, Row}
 use Rattle.rm_model.specs.Pages.{row_of}
 use Rattle.rm_history.specs.Acts.{Change}
 use Rattle.rm_history.specs.Contents.{slot_at, slot_of, page_of}
-use Rattle.rm_history.specs.Pending.{pending_of, rows_of_log}
+use Rattle.rm_history.specs.Pending.{pending_of}
+use Rattle.rm_history.specs.Rows.{rows_of_log}
 use Rattle.rm_history.specs.Laws.{IsChanged, PagesHoldWhatIsPending, PagesHoldWhatIsCommitted, SettledWhenNothingIsPending}
 use Rattle.rm_history.proofs.LeadsBack.{unchanged_row, applied_leads}
 use Rattle.rm_history.proofs.ChainSteps.{held_in}

@@ -6,7 +6,7 @@ use Rattle.rm_types.specs.declared.slots.Slot.{Slot}
 use Rattle.rm_model.specs.Pages.{row_of}
 use Rattle.rm_model.specs.Object.{Rows, is_same_place}
 use Rattle.rm_history.specs.Acts.{Change}
-use Rattle.rm_history.specs.Pending.{applied}
+use Rattle.rm_history.specs.Rows.{applied}
 use Rattle.rm_history.specs.Laws.{IsChanged}
 use Rattle.rm_history.proofs.RowIds.{same_place, is_same_place-refl}
 use Rattle.rm_history.proofs.PendingSteps.{cases_rid}

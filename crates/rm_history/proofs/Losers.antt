@@ -2,9 +2,9 @@
 use Rattle.std.proofs.Common.{◌≡◌, ◌⊎◌, inl, inr, ℕ, ◌<◌, List, [], ◌∷◌, refl, sym, ap, subst, ◌∙◌, arith}
 use Rattle.std.proofs.lemmas.Bool.{cases_eq, cases_lt, eq-eqb, ne_eqb, lt-ltb, le-ltb}
 use Rattle.rm_history.specs.Acts.{History, changes, undoes, enters, commits, ends, lists}
-use Rattle.rm_history.specs.Pending.{IsFinished, HasRecord}
+use Rattle.rm_history.specs.Transactions.{IsFinished, HasRecord}
 use Rattle.rm_history.specs.Rules.{IsInOrder}
-use Rattle.rm_history.specs.Undoing.{with_number, without_number, losers_of}
+use Rattle.rm_history.specs.Losers.{with_number, without_number, losers_of}
 
 -- the number is in the list
 abbrev pub IsAmong : List ℕ → ℕ → Type 0

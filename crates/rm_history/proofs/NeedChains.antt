@@ -7,7 +7,7 @@ use Rattle.rm_history.specs.Pending.{older, pending_of}
 use Rattle.rm_history.specs.Needs.{on_page, need_for, need_of}
 use Rattle.rm_history.specs.Rules.{MayChange, IsInOrder}
 use Rattle.rm_history.specs.Undoing.{undo_for, Settles, Undone}
-use Rattle.rm_history.specs.Laws.{NeedsAreLogged, NeedsGoOn}
+use Rattle.rm_history.specs.RoomLaws.{NeedsAreLogged, NeedsGoOn}
 use Rattle.rm_history.proofs.PendingSteps.{pending-undo}
 use Rattle.rm_history.proofs.PendingLaws.{finished_has_none}
 use Rattle.rm_history.proofs.Chains.{last_is_of}

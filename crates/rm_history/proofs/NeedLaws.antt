@@ -9,7 +9,7 @@ use Rattle.rm_model.specs.Pages.{row_length}
 use Rattle.rm_history.specs.Acts.{Change}
 use Rattle.rm_history.specs.Needs.{need_for}
 use Rattle.rm_history.specs.Literal.{lost, gained}
-use Rattle.rm_history.specs.Laws.{NeedIsTheMost}
+use Rattle.rm_history.specs.LiteralLaws.{NeedIsTheMost}
 
 -- what changes gave up does not depend on their order
 lost-reverse : (changed : List Change) → lost (reverse changed) ≡ lost changed

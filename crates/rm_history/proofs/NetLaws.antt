@@ -2,10 +2,11 @@
 use Rattle.std.proofs.Common.{◌≡◌, ◌⊎◌, inl, inr, ℕ, ◌<◌, Bool, true, ◌||◌, cond, eqb, List, [], ◌∷◌, refl, sym, ap, subst, ◌∙◌, arith}
 use Rattle.std.proofs.lemmas.Bool.{cases_eq, cases_Bool, eq-eqb, ne_eqb, cond-true, cond-false, or_left, or_right}
 use Rattle.rm_history.specs.Acts.{Act, Change, Undo, Finish, History, changes, undoes, enters, commits, ends, lists, newest_lsn}
-use Rattle.rm_history.specs.Pending.{older, pending_of, IsFinished}
+use Rattle.rm_history.specs.Pending.{older, pending_of}
+use Rattle.rm_history.specs.Transactions.{IsFinished}
 use Rattle.rm_history.specs.Rules.{MayUndo, IsInOrder}
 use Rattle.rm_history.specs.Literal.{is_undone, net_among}
-use Rattle.rm_history.specs.Laws.{NetIsPending}
+use Rattle.rm_history.specs.LiteralLaws.{NetIsPending}
 use Rattle.rm_history.proofs.NetLists.{HasLogged, net_kept, net_undone, net_foreign, net_agree, net-reverse}
 use Rattle.rm_history.proofs.ChangeLsns.{logged_below, logged_once, undone_is_logged, not_undone_yet}
 

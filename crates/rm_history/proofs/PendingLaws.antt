@@ -5,7 +5,8 @@ use Rattle.std.proofs.lemmas.Bool.{cond_both, eqb-true, cases_eq}
 use Rattle.rm_types.specs.declared.numbers.Rid.{Rid}
 use Rattle.rm_history.specs.Acts.{Change, History, changes, undoes, enters, commits, ends, lists}
 use Rattle.rm_history.specs.Contents.{page_of}
-use Rattle.rm_history.specs.Pending.{older, last_of, pending_of, IsFinished, HasChange}
+use Rattle.rm_history.specs.Pending.{older, last_of, pending_of}
+use Rattle.rm_history.specs.Transactions.{IsFinished, HasChange}
 use Rattle.rm_history.specs.Rules.{MayChange, IsInOrder}
 use Rattle.rm_history.specs.Laws.{AreChained, IsChanged, PendingIsChained, PendingIsOfOne}
 use Rattle.rm_history.proofs.PendingSteps.{if_equal, pending-change_other, pending-undo_other, length-put, inside-put}

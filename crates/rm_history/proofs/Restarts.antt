@@ -6,11 +6,14 @@ use Rattle.rm_types.specs.declared.numbers.Rid.{Rid}
 use Rattle.rm_model.specs.Object.{Rows}
 use Rattle.rm_history.specs.Acts.{Change, History, changes, undoes, enters, commits, ends, lists, newest_lsn}
 use Rattle.rm_history.specs.Contents.{page_of, entry_of, category_of}
-use Rattle.rm_history.specs.Pending.{pending_of, without_newest, all_pending, rows_of_log, IsFinished, HasRecord, HasChange}
+use Rattle.rm_history.specs.Pending.{pending_of, without_newest, all_pending}
+use Rattle.rm_history.specs.Transactions.{IsFinished, HasRecord, HasChange}
+use Rattle.rm_history.specs.Rows.{rows_of_log}
 use Rattle.rm_history.specs.Needs.{on_page}
 use Rattle.rm_history.specs.Legal.{IsLegal}
-use Rattle.rm_history.specs.Undoing.{category_after, entry_for, undo_for, Settles, Undone, AllUndone, AllEnded, losers_of}
-use Rattle.rm_history.specs.Laws.{IsUndone, RestartsAreLegal, RestartsAreThere}
+use Rattle.rm_history.specs.Losers.{losers_of}
+use Rattle.rm_history.specs.Undoing.{category_after, entry_for, undo_for, Settles, Undone, AllUndone, AllEnded}
+use Rattle.rm_history.specs.UndoLaws.{IsUndone, RestartsAreLegal, RestartsAreThere}
 use Rattle.rm_history.proofs.Fronts.{legal_is_in_order}
 use Rattle.rm_history.proofs.PendingLaws.{changed_none, changed_has_change}
 use Rattle.rm_history.proofs.Chains.{last_is_changed, last_is_unfinished}

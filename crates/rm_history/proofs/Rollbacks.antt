@@ -2,12 +2,14 @@
 use Rattle.std.proofs.Common.{◌≡◌, ◌⊎◌, inl, inr, ℕ, List, [], ◌∷◌, refl, sym, ap, subst, ◌∙◌, arith}
 use Rattle.rm_types.specs.declared.formats.Format.{Format}
 use Rattle.rm_history.specs.Acts.{Change, Finish, History, ends}
-use Rattle.rm_history.specs.Pending.{pending_of, rows_of_log, IsFinished, HasRecord}
+use Rattle.rm_history.specs.Pending.{pending_of}
+use Rattle.rm_history.specs.Transactions.{IsFinished, HasRecord}
+use Rattle.rm_history.specs.Rows.{rows_of_log}
 use Rattle.rm_history.specs.Needs.{on_page, need_for, need_of, Fits}
 use Rattle.rm_history.specs.Rules.{MayEnd}
 use Rattle.rm_history.specs.Legal.{EntriesFollow, IsLegal}
 use Rattle.rm_history.specs.Undoing.{AllUndone, Ended}
-use Rattle.rm_history.specs.Laws.{RollbacksAreLegal}
+use Rattle.rm_history.specs.UndoLaws.{RollbacksAreLegal}
 use Rattle.rm_history.proofs.Fronts.{legal_is_in_order}
 use Rattle.rm_history.proofs.ChainSteps.{pending-ended}
 use Rattle.rm_history.proofs.NeedSums.{sum_below-same}

@@ -9,10 +9,11 @@ use Rattle.rm_model.specs.Pages.{used, row_length, set_slot}
 use Rattle.rm_model.proofs.Slots.{used-set_slot}
 use Rattle.rm_history.specs.Acts.{Change, History, changes, undoes, enters, commits, ends, lists}
 use Rattle.rm_history.specs.Contents.{slot_at, page_of}
-use Rattle.rm_history.specs.Pending.{older, pending_of, greatest_txn}
+use Rattle.rm_history.specs.Pending.{older, pending_of}
+use Rattle.rm_history.specs.Transactions.{greatest_txn}
 use Rattle.rm_history.specs.Needs.{on_page, need_for, need_of, sum_below, Fits}
 use Rattle.rm_history.specs.Room.{others_need, growth_for}
-use Rattle.rm_history.specs.Laws.{FittingIsRoom}
+use Rattle.rm_history.specs.RoomLaws.{FittingIsRoom}
 use Rattle.rm_history.proofs.NeedSums.{sum_below-same, sum_below-one, sum_below-more, used-inside, need_of-change, need_of-change_elsewhere, need_of-change_other}
 use Rattle.rm_history.proofs.PendingSteps.{if_different}
 

@@ -3,7 +3,8 @@ use Rattle.std.proofs.Common.{◌≡◌, [], ◌∷◌, refl}
 use Rattle.rm_types.specs.declared.formats.Format.TheVariants.{One}
 use Rattle.rm_model.specs.Pages.{used}
 use Rattle.rm_history.specs.Contents.{page_of}
-use Rattle.rm_history.specs.Undoing.{losers_of, undo_bytes}
+use Rattle.rm_history.specs.Losers.{losers_of}
+use Rattle.rm_history.specs.UndoBytes.{undo_bytes}
 use Rattle.rm_history.proofs.ExampleLogs.{deleted, undone, ended, the_last_first, in_turn, falls_behind, stays_behind, two_pending, two_long_pending, not_entered}
 
 -- ---- losers

@@ -6,12 +6,14 @@ use Rattle.rm_types.specs.declared.formats.Format.TheVariants.{One}
 use Rattle.rm_model.specs.Pages.{used, row_length, set_slot}
 use Rattle.rm_history.specs.Acts.{Change, Undo, History, undoes, enters, newest_lsn}
 use Rattle.rm_history.specs.Contents.{slot_at, page_of, category_of, entry_of}
-use Rattle.rm_history.specs.Pending.{pending_of, rows_of_log, IsFinished}
+use Rattle.rm_history.specs.Pending.{pending_of}
+use Rattle.rm_history.specs.Transactions.{IsFinished}
+use Rattle.rm_history.specs.Rows.{rows_of_log}
 use Rattle.rm_history.specs.Needs.{on_page, need_of, sum_below, Fits}
 use Rattle.rm_history.specs.Rules.{MayUndo, Follows, IsInOrder}
 use Rattle.rm_history.specs.Legal.{IsKept, IsPendingOn, EntriesFollow, IsLegal}
 use Rattle.rm_history.specs.Undoing.{category_after, entry_for, undo_for, Settles, Undone}
-use Rattle.rm_history.specs.Laws.{IsUndone, UndoesAreInOrder, NoUndoLacksRoom}
+use Rattle.rm_history.specs.UndoLaws.{IsUndone, UndoesAreInOrder, NoUndoLacksRoom}
 use Rattle.rm_history.proofs.NeedSums.{room_kept, used-inside, on_page-here, on_page-elsewhere, pending_of-undo, need_of-undo, need_of-undo_elsewhere, need_of-undo_other}
 use Rattle.rm_history.proofs.Fronts.{legal_is_in_order}
 use Rattle.rm_history.proofs.PendingSteps.{pending-undo_other}

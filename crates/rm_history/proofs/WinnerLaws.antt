@@ -4,10 +4,12 @@ use Rattle.std.specs.Prelude.{reverse}
 use Rattle.std.proofs.lemmas.List.{reverse-append, reverse-reverse}
 use Rattle.rm_model.specs.Object.{Rows}
 use Rattle.rm_history.specs.Acts.{Act, Change, Finish, History, changes, undoes, commits, ends}
-use Rattle.rm_history.specs.Pending.{with_slot, pending_of, applied, rows_of_log, IsFinished}
+use Rattle.rm_history.specs.Pending.{pending_of}
+use Rattle.rm_history.specs.Transactions.{IsFinished}
+use Rattle.rm_history.specs.Rows.{with_slot, applied, rows_of_log}
 use Rattle.rm_history.specs.Rules.{MayCome, IsInOrder}
 use Rattle.rm_history.specs.Literal.{net_among, net, winners, made, won, rows_of_acts}
-use Rattle.rm_history.specs.Laws.{RowsAreOfWinners}
+use Rattle.rm_history.specs.LiteralLaws.{RowsAreOfWinners}
 use Rattle.rm_history.proofs.NetLists.{reverse-cons, net-reverse}
 use Rattle.rm_history.proofs.NetLaws.{IsForeign, net_stays, pending_is_net}
 

@@ -3,7 +3,7 @@ use Rattle.std.specs.Prelude.{◌≡◌, ℕ, ◌+◌, ◌≤◌, ◌==◌, if�
 use Rattle.rm_model.specs.Pages.{row_length}
 use Rattle.rm_model.specs.Object.{Rows}
 use Rattle.rm_history.specs.Acts.{Act, Change, changes, undoes, enters, commits, ends, lists}
-use Rattle.rm_history.specs.Pending.{with_slot}
+use Rattle.rm_history.specs.Rows.{with_slot}
 
 -- what the records of a log do, the oldest first
 abbrev pub Acts : Type 0

@@ -8,7 +8,7 @@ use Rattle.rm_types.specs.Formats.{category_bytes}
 use Rattle.rm_model.specs.Pages.{used}
 use Rattle.rm_history.specs.Acts.{History}
 use Rattle.rm_history.specs.Contents.{slot_at, page_of}
-use Rattle.rm_history.specs.Pending.{greatest_txn}
+use Rattle.rm_history.specs.Transactions.{greatest_txn}
 use Rattle.rm_history.specs.Needs.{need_of, sum_below}
 
 -- what the undo of all other transactions needs on the page

@@ -1,6 +1,9 @@
 //! What holds of all histories: functions without code, whose contracts are laws.
 
-ghost use Rattle.rm_history.specs.Laws.{LogsAreOne, ActsTellRecords, NeedsGoOn, FittingIsRoom, UndoesAreInOrder, SettledWhenNothingIsPending, EmptyIsLegal, FrontsAreInOrder, LegalFronts, LegalIsInOrder, PendingIsChained, PendingIsOfOne, PagesHoldWhatIsPending, PagesHoldWhatIsCommitted, NoUndoLacksRoom, RollbacksAreLegal, RestartsAreLegal, RestartsAreThere, UndoBytesGoDown, NetIsPending, RowsAreOfWinners, NeedIsTheMost};
+ghost use Rattle.rm_history.specs.Laws.{LogsAreOne, ActsTellRecords, SettledWhenNothingIsPending, EmptyIsLegal, FrontsAreInOrder, LegalFronts, LegalIsInOrder, PendingIsChained, PendingIsOfOne, PagesHoldWhatIsPending, PagesHoldWhatIsCommitted};
+ghost use Rattle.rm_history.specs.RoomLaws.{NeedsGoOn, FittingIsRoom};
+ghost use Rattle.rm_history.specs.UndoLaws.{UndoesAreInOrder, NoUndoLacksRoom, RollbacksAreLegal, RestartsAreLegal, RestartsAreThere, UndoBytesGoDown};
+ghost use Rattle.rm_history.specs.LiteralLaws.{NetIsPending, RowsAreOfWinners, NeedIsTheMost};
 
 /// An area has one log.
 pub fn an_area_has_one_log()

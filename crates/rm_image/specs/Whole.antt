@@ -11,7 +11,7 @@ use Rattle.rm_master.specs.Slots.{HasFields}
 use Rattle.rm_history.specs.declared.TheConstants.{BATCH_HEADER}
 use Rattle.rm_history.specs.Logs.{Batch, gate_of, HasLog}
 use Rattle.rm_history.specs.Legal.{IsLegal}
-use Rattle.rm_history.specs.Undoing.{undo_bytes}
+use Rattle.rm_history.specs.UndoBytes.{undo_bytes}
 use Rattle.rm_history.specs.Batched.{acts_of_batches, AreBelow, batch_of}
 use Rattle.rm_image.specs.Blocks.{block_at, blocks_of, IsDataBlock, IsInventoryBlock}
 use Rattle.rm_image.specs.Standing.{StandsFor, EntriesStandFor}

@@ -16,7 +16,7 @@ use Rattle.rm_record.specs.declared.records.LogRecord.TheVariants.{Insert}
 use Rattle.rm_record.specs.declared.records.Logged.{Logged}
 use Rattle.rm_history.specs.Acts.{History, changes, undoes, enters, commits, ends, lists, act_at, act_of, acts_onto, acts_of}
 use Rattle.rm_history.specs.Contents.{page_of}
-use Rattle.rm_history.specs.Pending.{repeat_count}
+use Rattle.rm_history.specs.Counts.{repeat_count}
 use Rattle.rm_history.specs.Batched.{AreBelow}
 use Rattle.rm_history.proofs.Behind.{acts_onto-append, acts_of-snoc, lsn_of-act_at}
 use Rattle.rm_restart.specs.declared.replay.ReplayRefused.{ReplayRefused}

@@ -5,9 +5,12 @@ use Rattle.rm_types.specs.declared.formats.Format.TheVariants.{One}
 use Rattle.rm_types.specs.declared.slots.Slot.{Slot}
 use Rattle.rm_types.specs.declared.slots.Slot.TheVariants.{Vacant}
 use Rattle.rm_history.specs.Acts.{Change, Entry, History, changes, undoes, enters, commits, ends, lists}
-use Rattle.rm_history.specs.Pending.{pending_of, all_pending, IsFinished, HasRecord}
+use Rattle.rm_history.specs.Pending.{pending_of, all_pending}
+use Rattle.rm_history.specs.Transactions.{IsFinished, HasRecord}
 use Rattle.rm_history.specs.Rules.{IsInOrder}
-use Rattle.rm_history.specs.Undoing.{category_after, entry_for, undo_for, inventory_record, compensate_record, end_record, bytes_of, with_undo, undoing_bytes, ending_bytes, losers_of, undo_bytes}
+use Rattle.rm_history.specs.Losers.{losers_of}
+use Rattle.rm_history.specs.Undoing.{category_after, entry_for, undo_for}
+use Rattle.rm_history.specs.UndoBytes.{inventory_record, compensate_record, end_record, bytes_of, with_undo, undoing_bytes, ending_bytes, undo_bytes}
 use Rattle.rm_history.specs.Contents.{entry_of}
 use Rattle.rm_history.proofs.AllPending.{of_txn, of_txn-newest, pending_of-all}
 use Rattle.rm_history.proofs.Losers.{IsAmong, Rise, losers_rise, losers_have_records, losers_are_unfinished}

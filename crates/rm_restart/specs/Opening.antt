@@ -14,7 +14,9 @@ use Rattle.rm_wal.specs.Tails.{LogValue}
 use Rattle.rm_history.specs.Logs.{Batch, gate_of, AreBatches, HasLog, IsDamagedAt as IsLogDamagedAt}
 use Rattle.rm_history.specs.Acts.{Act, History, lsn_of}
 use Rattle.rm_history.specs.Contents.{page_of}
-use Rattle.rm_history.specs.Pending.{pending_of, greatest_txn, repeat_count}
+use Rattle.rm_history.specs.Pending.{pending_of}
+use Rattle.rm_history.specs.Transactions.{greatest_txn}
+use Rattle.rm_history.specs.Counts.{repeat_count}
 use Rattle.rm_history.specs.Batched.{acts_of_batches, IsBelow, AreBelow}
 use Rattle.rm_restart.specs.Plain.{IsPlain, ArePlain}
 

@@ -10,7 +10,9 @@ use Rattle.rm_model.specs.Pages.{PageValue, used, set_slot}
 use Rattle.rm_model.specs.Session.{page_at}
 use Rattle.rm_history.specs.Acts.{Change, History}
 use Rattle.rm_history.specs.Contents.{page_of}
-use Rattle.rm_history.specs.Pending.{pending_of, greatest_txn, repeat_count}
+use Rattle.rm_history.specs.Pending.{pending_of}
+use Rattle.rm_history.specs.Transactions.{greatest_txn}
+use Rattle.rm_history.specs.Counts.{repeat_count}
 use Rattle.rm_history.specs.Batched.{AreBelow}
 use Rattle.rm_restart.specs.Plain.{ArePlain}
 use Rattle.rm_restart.specs.declared.replay.Replay.{Replay}

@@ -9,9 +9,10 @@ use Rattle.rm_master.specs.declared.fields.Fields.{Fields}
 use Rattle.rm_master.specs.Slots.{HasFields}
 use Rattle.rm_history.specs.declared.TheConstants.{BATCH_HEADER}
 use Rattle.rm_history.specs.Logs.{Batch, gate_of, HasLog}
-use Rattle.rm_history.specs.Pending.{rows_of_log, commit_count}
+use Rattle.rm_history.specs.Rows.{rows_of_log}
+use Rattle.rm_history.specs.Counts.{commit_count}
 use Rattle.rm_history.specs.Rules.{IsInOrder}
-use Rattle.rm_history.specs.Undoing.{undo_bytes}
+use Rattle.rm_history.specs.UndoBytes.{undo_bytes}
 use Rattle.rm_history.specs.Batched.{acts_of_batches, AreBelow}
 use Rattle.rm_restart.specs.Plain.{ArePlain}
 

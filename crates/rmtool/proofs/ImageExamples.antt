@@ -22,7 +22,7 @@ use Rattle.rm_master.specs.Fresh.{IsFresh}
 use Rattle.rm_master.proofs.Writing.{fresh-IsFields}
 use Rattle.rm_history.specs.Acts.{Act, changes, commits}
 use Rattle.rm_history.specs.Contents.{page_of}
-use Rattle.rm_history.specs.Pending.{commit_count}
+use Rattle.rm_history.specs.Counts.{commit_count}
 use Rattle.rm_history.specs.Batched.{acts_of_batches}
 use Rattle.rm_history.specs.Logs.{Batch, body_of, HasLog}
 use Rattle.rm_history.proofs.Readings.{log_once}

@@ -17,7 +17,8 @@ use Rattle.rm_model.specs.Object.{Rows}
 use Rattle.rm_model.specs.Session.{State, opened}
 use Rattle.rm_master.specs.Slots.{IsUnmade}
 use Rattle.rm_history.specs.Logs.{Batch}
-use Rattle.rm_history.specs.Pending.{rows_of_log, commit_count}
+use Rattle.rm_history.specs.Rows.{rows_of_log}
+use Rattle.rm_history.specs.Counts.{commit_count}
 use Rattle.rm_history.specs.Batched.{acts_of_batches}
 use Rattle.rm_wal.specs.Tails.{LogValue}
 use Rattle.rm_restart.specs.Opening.{Opens, NeedsUndoOf, IsDamage}

@@ -13,7 +13,8 @@ use Rattle.rm_model.specs.Object.{Rows}
 use Rattle.rm_model.specs.Session.{State, opened}
 use Rattle.rm_model.specs.Grammar.{IsTurns, IsFirstWrongTurns, IsWithinLimits}
 use Rattle.rm_model.specs.Texts.{turn_lines, unfinished_line}
-use Rattle.rm_history.specs.Pending.{rows_of_log, commit_count}
+use Rattle.rm_history.specs.Rows.{rows_of_log}
+use Rattle.rm_history.specs.Counts.{commit_count}
 use Rattle.rm_history.specs.Batched.{acts_of_batches}
 use Rattle.rm_script.specs.Refusals.{HasTooMuch}
 use Rattle.rm_wal.specs.Tails.{LogValue}

@@ -1,6 +1,6 @@
 use Rattle.std.proofs.Common.{◌≡◌, ℕ, take}
 use Rattle.rm_history.specs.Acts.{acts_of}
-use Rattle.rm_history.specs.Pending.{IsFinished, HasRecord}
+use Rattle.rm_history.specs.Transactions.{IsFinished, HasRecord}
 use Rattle.rm_audit.specs.Parts.{IsNamed}
 use Rattle.rm_audit.proofs.listings.forgotten.Given as goal
 

@@ -1,6 +1,6 @@
 use Rattle.std.proofs.Common.{ℕ, ◌<◌, take}
 use Rattle.rm_history.specs.Acts.{acts_of}
-use Rattle.rm_history.specs.Pending.{HasRecord}
+use Rattle.rm_history.specs.Transactions.{HasRecord}
 use Rattle.rm_audit.proofs.listings.not_below.Given as goal
 
 abbrev pub invariant-loop-logged : goal.invariant-loop-logged

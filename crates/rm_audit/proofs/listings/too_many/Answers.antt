@@ -1,6 +1,6 @@
 use Rattle.std.proofs.Common.{rules}
 use Rattle.rm_history.specs.Acts.{acts_of}
-use Rattle.rm_history.specs.Pending.{HasRecord, IsFinished}
+use Rattle.rm_history.specs.Transactions.{HasRecord, IsFinished}
 use Rattle.rm_audit.proofs.Places.{each_more, in_at}
 use Rattle.rm_audit.proofs.listings.too_many.Goals as goal
 

@@ -1,7 +1,7 @@
 use Rattle.std.proofs.Common.{take}
 use Rattle.rm_types.specs.declared.places.Place.{Place}
 use Rattle.rm_history.specs.Acts.{acts_of}
-use Rattle.rm_history.specs.Pending.{IsFinished, HasRecord}
+use Rattle.rm_history.specs.Transactions.{IsFinished, HasRecord}
 use Rattle.rm_history.specs.Rules.{IsIn}
 use Rattle.rm_audit.proofs.listings.too_many.Given as goal
 

@@ -1,6 +1,6 @@
 use Rattle.std.proofs.Common.{take, reverse}
 use Rattle.rm_model.specs.Object.{Rows}
-use Rattle.rm_history.specs.Pending.{applied}
+use Rattle.rm_history.specs.Rows.{applied}
 use Rattle.rm_audit.specs.Rows.{HasRows}
 use Rattle.rm_audit.proofs.rows.apply.Given as goal
 

@@ -1,6 +1,6 @@
 use Rattle.std.proofs.Common.{take}
 use Rattle.rm_history.specs.Acts.{acts_of}
-use Rattle.rm_history.specs.Pending.{rows_of_log}
+use Rattle.rm_history.specs.Rows.{rows_of_log}
 use Rattle.rm_audit.specs.Rows.{HasRows}
 use Rattle.rm_audit.proofs.rows.committed_rows.Given as goal
 

@@ -4,7 +4,8 @@ use Rattle.rm_record.specs.declared.records.LogRecord.{LogRecord}
 use Rattle.rm_record.specs.declared.records.LogRecord.TheVariants.{Commit}
 use Rattle.rm_record.specs.declared.records.Logged.{Logged}
 use Rattle.rm_history.specs.Acts.{Change, History, act_at, act_of, acts_of}
-use Rattle.rm_history.specs.Pending.{applied, pending_of, rows_of_log}
+use Rattle.rm_history.specs.Pending.{pending_of}
+use Rattle.rm_history.specs.Rows.{applied, rows_of_log}
 use Rattle.rm_audit.specs.Rows.{HasRows}
 use Rattle.rm_audit.proofs.rows.rows_step.Goals as goal
 

@@ -1,6 +1,6 @@
 use Rattle.std.proofs.Common.{IsTrue, ◌↔◌, take}
 use Rattle.rm_history.specs.Acts.{acts_of}
-use Rattle.rm_history.specs.Pending.{HasRecord}
+use Rattle.rm_history.specs.Transactions.{HasRecord}
 use Rattle.rm_audit.proofs.transactions.has_record.Given as goal
 
 abbrev pub invariant-loop-logged : goal.invariant-loop-logged

@@ -1,6 +1,6 @@
 use Rattle.std.proofs.Common.{IsTrue, ◌↔◌, take}
 use Rattle.rm_history.specs.Acts.{acts_of}
-use Rattle.rm_history.specs.Pending.{IsFinished}
+use Rattle.rm_history.specs.Transactions.{IsFinished}
 use Rattle.rm_audit.proofs.transactions.is_finished.Given as goal
 
 abbrev pub invariant-loop-logged : goal.invariant-loop-logged
