@@ -1,11 +1,12 @@
--- The definitions of blocks, redo offsets, checkpoints and copies, on examples.
+-- The definitions of blocks, redo, checkpoints and copies, on examples.
 use Rattle.std.proofs.Common.{◌≡◌, ℕ, List, [], ◌∷◌, inl, inr, refl, arith, lit<, lit≤}
 use Rattle.rm_types.specs.declared.formats.Format.TheVariants.{One}
 use Rattle.rm_types.specs.declared.slots.Slot.TheVariants.{Vacant, Row}
-use Rattle.rm_history.specs.Acts.{Change, Finish, History, changes, commits}
+use Rattle.rm_history.specs.Acts.{Change, Finish, History, changes, enters, commits}
 use Rattle.rm_image.specs.Blocks.{entry_in, IsRowAt, AreApart, blocks_of}
 use Rattle.rm_image.specs.Standing.{StandsFor}
 use Rattle.rm_image.specs.Checkpoints.{place_or, least_of}
+use Rattle.rm_image.specs.Redo.{PageBlock, EntriesBlock, page_redone, entries_redone}
 use Rattle.rm_image.specs.Copies.{copied_page, copied_block}
 
 abbrev row : List ℕ
@@ -43,6 +44,33 @@ other_page = (λ le. absurd (omega (arith, le)), λ lt. (λ on. absurd on, (λ l
 -- no block has the commit's LSN
 not_of_commit : StandsFor gates history 0 29 (Row row ∷ []) 0 → ⊥
 not_of_commit stands = omega (arith, (stands.0 (lit≤ tt)).0)
+
+-- redo gives a block of zeros the insert, and leaves a block that has it; from behind the batch on it repeats nothing
+abbrev zeros : PageBlock
+zeros = record { version = 0; slots = [] }
+
+abbrev has_insert : PageBlock
+has_insert = record { version = 5; slots = Row row ∷ [] }
+
+repeats_it : page_redone gates 0 0 history zeros ≡ has_insert
+repeats_it = refl
+
+leaves_it : page_redone gates 0 0 history has_insert ≡ has_insert
+leaves_it = refl
+
+passes_over_it : page_redone gates 34 0 history zeros ≡ zeros
+passes_over_it = refl
+
+-- an entry of page 1 is set in block 0 alone
+abbrev entered : History
+entered = enters (record { lsn = 39; txn = 2; page = 1; category = 3 }) ∷ history
+
+abbrev no_entries : EntriesBlock
+no_entries = record { version = 0; entries = λ index. 0 }
+
+sets_entry : ((entries_redone gates 0 0 entered no_entries).version ≡ 39) × ((entries_redone gates 0 0 entered no_entries).entries 1 ≡ 3)
+    × ((entries_redone gates 0 0 entered no_entries).entries 0 ≡ 0) × ((entries_redone gates 0 1 entered no_entries).version ≡ 0)
+sets_entry = (refl, refl, refl, refl)
 
 -- a row that ends where its block does, and one byte further
 ends_there : IsRowAt 1 4095 row

@@ -42,7 +42,7 @@ module _ (page : ℕ) where
   version_within (other ∷ before) ordered = omega (arith, version_within before ordered.0, ordered.1.above)
 
   module _ (gates : ℕ → ℕ) (version : ℕ) (slots : List Slot) (redo : ℕ) where
-    -- the block of which this is said is one of those of which fronts are shown
+    -- so the front lemmas hold of a page's block
     is_block : IsBlock (HoldsPage page version slots) (IsOnPage page) gates version redo
     is_block = record {
       stays = λ act before off holds. (holds.0 ∙ sym (version_off act before off), holds.1 ∙ sym (page_off act before off));
@@ -87,7 +87,7 @@ module _ (block : ℕ) where
   block_version_within (other ∷ before) ordered = omega (arith, block_version_within before ordered.0, ordered.1.above)
 
   module _ (gates : ℕ → ℕ) (version : ℕ) (entries : ℕ → ℕ) (redo : ℕ) where
-    -- the block of which this is said is one of those of which fronts are shown
+    -- and of a block of the inventory
     is_entries_block : IsBlock (HoldsEntries block version entries) (IsInBlock block) gates version redo
     is_entries_block = record {
       stays = λ act before off holds. (
