@@ -5,8 +5,12 @@
 //! in the same call. So a caller that reports a fault can show that the outside had one.
 #![tactic(auto)]
 
+mod areas;
+mod calls;
 mod streams;
 mod volume;
 
+pub use areas::PerArea;
+pub use calls::{read_area, sync_area, sync_areas, sync_content, write_area};
 pub use streams::{Sink, Source};
 pub use volume::{Failed, Volume};
