@@ -72,7 +72,7 @@ module _ (gate : ℕ) (tail : List ℕ) (left : Image → Type 0) (batches : Lis
 
   -- the log is one of the two
   pub either_log : (c : Image) → ComesByFlush gate (written_tail tail) left c → HasEither batches batch c
-  either_log c comes = log_of_step comes.from c batches batch (tails.logs comes.from comes.was) is_batch (step_is c comes.from comes.step)
+  either_log c (d, was, step) = log_of_step d c batches batch (tails.logs d was) is_batch (step_is c d step)
 
   flushed_is : (c : Image) → IsFlushed gate (written_tail tail) c → IsFlushed (gate_of batches) (written_tail (spelling_all batch)) c
   flushed_is c flushed =
@@ -81,7 +81,7 @@ module _ (gate : ℕ) (tail : List ℕ) (left : Image → Type 0) (batches : Lis
 
   -- and it is the new one once the flush is done
   pub new_log : (c : Image) → IsFlushed gate (written_tail tail) c → ComesByFlush gate (written_tail tail) left c → HasLog (c Log) (batch ∷ batches)
-  new_log c flushed comes =
+  new_log c flushed (d, was, comes) =
       let done = flushed_is c flushed in
-      let step = step_is c comes.from comes.step in
-      log_grows (comes.from Log) (c Log) batches batch (tails.logs comes.from comes.was) step.below is_batch done.opened done.shown
+      let step = step_is c d comes in
+      log_grows (d Log) (c Log) batches batch (tails.logs d was) step.below is_batch done.opened done.shown

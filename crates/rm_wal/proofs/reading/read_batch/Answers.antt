@@ -14,4 +14,4 @@ returns-in_err-read_records-clause-damaged g c = λ area at told.
     let damaged = c.in_err-read_records.ensures.damaged area at cc in
     let opened = rw c.in-Some.is at c.in_ok-len.ensures.found in
     let long : length c.deref.result.now ≡ c.in-Some.len = c.deref.ensures.len ∙ c.in_ok-body.ensures.len in
-    (damaged.0, batch_is_wrong opened (λ tells. shows_before c.read_header.ensures.reads.content c.deref.ensures.value (c.in_ok-body.ensures.bytes tells)) long damaged.1)
+    (damaged.0, batch_is_wrong opened (λ tells. shows_before c.read_header.ensures.reads.0.content c.deref.ensures.value (c.in_ok-body.ensures.bytes tells)) long damaged.1)
