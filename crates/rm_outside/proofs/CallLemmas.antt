@@ -1,12 +1,12 @@
 -- Calls one after another.
-use Rattle.std.proofs.Common.{◌≡◌, ℕ, ◌≤◌, Bool, true, false, refl, ◌∙◌, arith}
+use Rattle.std.proofs.Common.{◌≡◌, ℕ, ◌≤◌, Bool, true, false, refl, sym, ◌∙◌, arith}
 use Rattle.rm_types.specs.declared.areas.Area.{Area}
 use Rattle.rm_types.specs.declared.areas.Area.TheVariants.{Master, Log, Data, Space, Copy}
 use Rattle.rm_outside.specs.Areas.{is_same}
 use Rattle.rm_outside.specs.Counts.{CountsBlock, CountsBytes, CountsAtMost}
 use Rattle.rm_outside.specs.Images.{Image}
-use Rattle.rm_outside.specs.Moments.{AddsNone, ComesBy, Elapses, Follows, LeavesOnly, started, goes_on, joined, weaker}
-use Rattle.rm_outside.specs.Calls.{Facts, AllLeft, StaysUnless, Counts, Reading, Writing}
+use Rattle.rm_outside.specs.Moments.{AddsNone, ComesBy, Elapses, Follows, IsDurable, started, goes_on, joined, weaker}
+use Rattle.rm_outside.specs.Calls.{Facts, StaysUnless, Counts, Reading, Writing}
 
 -- ---- counts
 
@@ -94,19 +94,14 @@ module _ {data_read log_read : Bool} where
 
 -- ---- calls that write
 
-module _ {step : Image → Image → Type 0} where
-  -- no call, where the step may change nothing
-  pub writes_none : {a : Facts} → ((c : Image) → a.left_since a.moment c → a.may_leave c) → ((c : Image) → step c c) → Writing step a a
-  writes_none {a} only_now still = record {
-    content = still a.content;
-    crash = record { each = λ c now. (c, now, still c) };
-    time = started _ _ _ (λ c left. (c, only_now c left, still c));
-    counts = counts_none;
-  }
+comes_then : {step : Image → Image → Type 0} {old mid : Image → Type 0} → Follows step old mid → ((c d e : Image) → step c d → step d e → step c e)
+    → (e : Image) → ComesBy step mid e → ComesBy step old e
+comes_then follows trans e (d, left, last) = let before = follows.each d left in (before.0, before.1, trans _ _ _ before.2 last)
 
-  -- one call, from an image that might have been left or by the step
-  pub writes_once : {a b : Facts} → ((c : Image) → a.left_since a.moment c → a.may_leave c) → ((c : Image) → step c c) → step a.content b.content → Follows step a.may_leave b.may_leave
-      → Elapses a.moment b.moment a.left_since b.left_since b.may_leave → Counts false false a b → Writing step a b
+module _ {change step : Image → Image → Type 0} where
+  -- one call, where the step may also change nothing
+  pub writes_once : {a b : Facts} → ((c : Image) → a.left_since a.moment c → a.may_leave c) → ((c : Image) → step c c) → change a.content b.content → Follows step a.may_leave b.may_leave
+      → Elapses a.moment b.moment a.left_since b.left_since b.may_leave → Counts false false a b → Writing change step a b
   writes_once only_now still content follows time counts = record {
     content = content;
     crash = follows;
@@ -115,7 +110,7 @@ module _ {step : Image → Image → Type 0} where
   }
 
   -- a write, and then syncs
-  pub writes_synced : {a b c : Facts} → Writing step a b → Reading false false b c → Writing step a c
+  pub writes_synced : {a b c : Facts} → Writing change step a b → Reading false false b c → Writing change step a c
   writes_synced {a} written syncs = record {
     content = rw syncs.content written.content;
     crash = record { each = λ c now. written.crash.each c (syncs.crash.each c now) };
@@ -124,7 +119,7 @@ module _ {step : Image → Image → Type 0} where
   }
 
   -- syncs, and then a write
-  pub synced_writes : {a b c : Facts} → Reading false false a b → Writing step b c → ((c : Image) → step c c) → Writing step a c
+  pub synced_writes : {a b c : Facts} → Reading false false a b → Writing change step b c → ((c : Image) → step c c) → Writing change step a c
   synced_writes syncs written still = record {
     content = rw (← syncs.content) written.content;
     crash = record { each = λ c now. let d = written.crash.each c now in (d.0, syncs.crash.each d.0 d.1, d.2) };
@@ -132,23 +127,47 @@ module _ {step : Image → Image → Type 0} where
     counts = counts_then syncs.counts written.counts;
   }
 
-  -- a step is of another kind too
-  pub writes_weaker : {other : Image → Image → Type 0} {a b : Facts} → Writing step a b → ((c d : Image) → step c d → other c d) → Writing other a b
-  writes_weaker written holds = record {
-    content = holds _ _ written.content;
+  -- a change and a step that are of another kind too
+  pub writes_weaker : {other_change other_step : Image → Image → Type 0} {a b : Facts} → Writing change step a b → ((c d : Image) → change c d → other_change c d)
+      → ((c d : Image) → step c d → other_step c d) → Writing other_change other_step a b
+  writes_weaker written changes holds = record {
+    content = changes _ _ written.content;
     crash = record { each = λ c now. let d = written.crash.each c now in (d.0, d.1, holds _ _ d.2) };
     time = weaker written.time (λ c d. (d.0, d.1, holds _ _ d.2));
     counts = written.counts;
   }
 
-  comes_then : {old mid : Image → Type 0} → Follows step old mid → ((c d e : Image) → step c d → step d e → step c e) → (e : Image) → ComesBy step mid e → ComesBy step old e
-  comes_then follows trans e (d, left, last) = let before = follows.each d left in (before.0, before.1, trans _ _ _ before.2 last)
+module _ {step : Image → Image → Type 0} where
+  -- no call, where the step may change nothing
+  pub writes_none : {a : Facts} → ((c : Image) → a.left_since a.moment c → a.may_leave c) → ((c : Image) → step c c) → Writing step step a a
+  writes_none {a} only_now still = record {
+    content = still a.content;
+    crash = record { each = λ c now. (c, now, still c) };
+    time = started _ _ _ (λ c left. (c, only_now c left, still c));
+    counts = counts_none;
+  }
+
+  -- syncs alone
+  pub syncs_write : {a b : Facts} → Reading false false a b → ((c : Image) → step c c) → Writing step step a b
+  syncs_write {a} syncs still = record {
+    content = rw syncs.content (still a.content);
+    crash = record { each = λ c now. (c, syncs.crash.each c now, still c) };
+    time = weaker syncs.time (λ c left. (c, left, still c));
+    counts = syncs.counts;
+  }
 
   -- a write, and then another
-  pub writes_then : {a b c : Facts} → Writing step a b → Writing step b c → ((c d e : Image) → step c d → step d e → step c e) → Writing step a c
+  pub writes_then : {a b c : Facts} → Writing step step a b → Writing step step b c → ((c d e : Image) → step c d → step d e → step c e) → Writing step step a c
   writes_then one other trans = record {
     content = trans _ _ _ one.content other.content;
     crash = record { each = λ c now. comes_then one.crash trans c (other.crash.each c now) };
     time = joined one.time (weaker other.time (comes_then one.crash trans));
     counts = counts_then one.counts other.counts;
   }
+
+-- an area that no step changes stays durable
+pub durable_on : {change step : Image → Image → Type 0} {area : Area} {a b : Facts} → Writing change step a b → ((c d : Image) → change c d → d area ≡ c area)
+    → ((c d : Image) → step c d → d area ≡ c area) → IsDurable area a.content a.may_leave → IsDurable area b.content b.may_leave
+durable_on written content_stays stays durable = record {
+  each = λ c now. let d = written.crash.each c now in stays _ _ d.2 ∙ durable.each d.0 d.1 ∙ sym (content_stays _ _ written.content);
+}

@@ -10,7 +10,7 @@ use Rattle.rm_types.specs.declared.faults.StoreFault.TheVariants as store
 use Rattle.rm_outside.specs.declared.volume.Volume.{Ghosts}
 use Rattle.rm_outside.specs.Areas.{is_same}
 use Rattle.rm_outside.specs.Faults.{Rises}
-use Rattle.rm_outside.specs.Images.{Image, Shows}
+use Rattle.rm_outside.specs.Images.{Image, KeepsOthers, Shows}
 use Rattle.rm_outside.specs.Moments.{AddsNone, ComesBy, Follows, IsDurable, LeavesOnly}
 
 -- ---- a volume at one moment
@@ -75,9 +75,10 @@ pub record Reading (data_read log_read : Bool) (old new : Facts) : Type 0 where
   pub time : AllLeft old new old.may_leave
   pub counts : Counts data_read log_read old new
 
--- The content and each image that a crash may leave come by the step from ones of before. Nothing is read.
-pub record Writing (step : Image → Image → Type 0) (old new : Facts) : Type 0 where
-  pub content : step old.content new.content
+-- What a read gives changes as said, and each image that a crash may leave comes by the step from one of before. Nothing
+-- is read.
+pub record Writing (change step : Image → Image → Type 0) (old new : Facts) : Type 0 where
+  pub content : change old.content new.content
   pub crash : Follows step old.may_leave new.may_leave
   pub time : AllLeft old new (ComesBy step old.may_leave)
   pub counts : Counts false false old new
@@ -96,7 +97,11 @@ OnlySyncs g old new = Reading false false (facts_of g old) (facts_of g new) × I
 
 -- The calls write by the step, or make durable what was written.
 abbrev pub Writes : {V : Type 0} → Ghosts V → (Image → Image → Type 0) → V → V → Type 0
-Writes g step old new = Writing step (facts_of g old) (facts_of g new) × IsSame g old new
+Writes g step old new = Writing step step (facts_of g old) (facts_of g new) × IsSame g old new
+
+-- The same in one area, where the step may say of images what is known of a content only if it is modelled.
+abbrev pub WritesIn : {V : Type 0} → Ghosts V → Area → (Image → Image → Type 0) → V → V → Type 0
+WritesIn g area step old new = Writing (KeepsOthers area) step (facts_of g old) (facts_of g new) × IsSame g old new
 
 -- What every call keeps that reads nothing.
 abbrev pub ReadsNothing : {V : Type 0} → Ghosts V → V → V → Type 0

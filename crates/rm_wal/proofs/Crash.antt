@@ -1,10 +1,10 @@
 -- What a crash leaves in each of the two steps of a flush.
 use Rattle.std.proofs.Common.{◌≡◌, ℕ, ◌+◌, false, List, [], ◌∷◌, inl, inr, ap, ◌∙◌, arith}
 use Rattle.rm_types.specs.declared.areas.Area.TheVariants.{Log}
-use Rattle.rm_outside.specs.Images.{Image, Shows, Torn}
+use Rattle.rm_outside.specs.Images.{Image, KeepsOthers, Shows, Torn}
 use Rattle.rm_outside.specs.Moments.{ComesBy, IsDurable, joined, weaker}
-use Rattle.rm_outside.specs.Calls.{AllLeft, Facts, Reading, Writing}
-use Rattle.rm_outside.proofs.CallLemmas.{writes_synced, writes_weaker}
+use Rattle.rm_outside.specs.Calls.{Facts, Reading, Writing}
+use Rattle.rm_outside.proofs.CallLemmas.{counts_then, writes_synced, writes_weaker}
 use Rattle.rm_wal.specs.Flushing.{FlushStep, ComesByFlush, IsFlushed}
 
 -- the image comes by the flush, and what was written stands after the gate
@@ -21,8 +21,11 @@ module _ {gate : ℕ} {written : List ℕ} where
   }
 
   -- the tail is written, in part or whole, after a gate that is as it was
-  pub tail_written : {a b : Facts} → Writing (Torn Log (gate + 1) written) a b → Writing (FlushStep gate written) a b
-  tail_written writes = writes_weaker writes tail_torn
+  pub tail_written : {a b : Facts} → Writing (Torn Log (gate + 1) written) (Torn Log (gate + 1) written) a b → Writing (FlushStep gate written) (FlushStep gate written) a b
+  tail_written writes = writes_weaker writes tail_torn tail_torn
+
+  pub others_stay : {a b : Facts} → Writing (FlushStep gate written) (FlushStep gate written) a b → Writing (KeepsOthers Log) (FlushStep gate written) a b
+  others_stay writes = writes_weaker writes (λ c d step. step.others) (λ c d step. step)
 
   -- the gate is torn before a tail that is durable
   gate_torn : {left half : Image → Type 0} → ((c : Image) → half c → IsStaged gate written left c) → (c : Image) → ComesBy (Torn Log gate (1 ∷ [])) half c → IsStaged gate written left c
@@ -31,19 +34,23 @@ module _ {gate : ℕ} {written : List ℕ} where
       let shown : Shows (c Log) (gate + 1) written = record { each = λ k lt. torn.after (gate + 1 + k) (omega arith) ∙ before.shown.each k lt } in
       let step = before.comes.2 in
       record {
-        comes = (before.comes.0, before.comes.1, record {
-          others = record { each = λ other apart. torn.areas other apart ∙ step.others.each other apart };
-          below = λ k lt. torn.before k lt ∙ step.below k lt;
-          gate_is = inr shown;
-        });
+        comes = (
+          before.comes.0,
+          before.comes.1,
+          record {
+            others = record { each = λ other apart. torn.areas other apart ∙ step.others.each other apart };
+            below = λ k lt. torn.before k lt ∙ step.below k lt;
+            gate_is = inr shown;
+          },
+        );
         shown = shown;
       }
 
   -- The tail is written and synced, and then the gate is written. The bytes stand where the volume models its content.
-  module _ {models : Type 0} {a b c d : Facts} (writes : Writing (Torn Log (gate + 1) written) a b) (bytes : models → Shows (b.content Log) (gate + 1) written)
+  module _ {models : Type 0} {a b c d : Facts} (writes : Writing (Torn Log (gate + 1) written) (Torn Log (gate + 1) written) a b) (bytes : models → Shows (b.content Log) (gate + 1) written)
       (syncs : Reading false false b c) (durable : IsDurable Log c.content c.may_leave) (only : (x : Image) → c.may_leave x → models)
-      (opens : Writing (Torn Log gate (1 ∷ [])) c d) where
-    tail : Writing (FlushStep gate written) a c
+      (opens : Writing (Torn Log gate (1 ∷ [])) (Torn Log gate (1 ∷ [])) c d) where
+    tail : Writing (FlushStep gate written) (FlushStep gate written) a c
     tail = writes_synced (tail_written writes) syncs
 
     staged : (x : Image) → c.may_leave x → IsStaged gate written a.may_leave x
@@ -52,20 +59,19 @@ module _ {gate : ℕ} {written : List ℕ} where
       shown = record { each = λ k lt. ap (λ (area : ℕ → ℕ). area (gate + 1 + k)) (durable.each x now) ∙ ap (λ (image : Image). image Log (gate + 1 + k)) syncs.content ∙ (bytes (only x now)).each k lt };
     }
 
-    pub gate_written : AllLeft a d (ComesByFlush gate written a.may_leave)
-    gate_written = joined tail.time (weaker opens.time (λ x comes. (gate_torn staged x comes).comes))
+    pub gate_written : Writing (KeepsOthers Log) (FlushStep gate written) a d
+    gate_written = record {
+      content = record { each = λ other apart. opens.content.areas other apart ∙ tail.content.others.each other apart };
+      crash = record { each = λ x now. (gate_torn staged x (opens.crash.each x now)).comes };
+      time = joined tail.time (weaker opens.time (λ x comes. (gate_torn staged x comes).comes));
+      counts = counts_then tail.counts opens.counts;
+    }
 
-    -- and the gate is synced
+    -- and synced
     module _ {e : Facts} (last : Reading false false d e) where
-      at_last : (x : Image) → e.may_leave x → IsStaged gate written a.may_leave x
-      at_last x now = gate_torn staged x (opens.crash.each x (last.crash.each x now))
-
-      pub gate_synced : AllLeft a e (ComesByFlush gate written a.may_leave)
-      gate_synced = joined gate_written (weaker last.time (λ x left. (gate_torn staged x (opens.crash.each x left)).comes))
-
       pub gate_opened : (models → Shows (d.content Log) gate (1 ∷ [])) → ((x : Image) → e.may_leave x → models) → IsDurable Log e.content e.may_leave
-          → (x : Image) → e.may_leave x → IsFlushed gate written x × ComesByFlush gate written a.may_leave x
+          → (x : Image) → e.may_leave x → IsFlushed gate written x
       gate_opened byte modelled synced x now =
           let here : gate ≡ gate + 0 = omega arith in
           let opened = ap (λ (area : ℕ → ℕ). area gate) (synced.each x now) ∙ ap (λ (image : Image). image Log gate) last.content ∙ ap (d.content Log) here ∙ (byte (modelled x now)).each 0 (omega arith) in
-          (record { opened = opened; shown = (at_last x now).shown }, (at_last x now).comes)
+          record { opened = opened; shown = (gate_torn staged x (opens.crash.each x (last.crash.each x now))).shown }

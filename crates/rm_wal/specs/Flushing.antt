@@ -1,12 +1,12 @@
 -- What a flush does to a volume, and what a crash during it leaves.
-use Rattle.std.specs.Prelude.{◌≡◌, ℕ, ◌+◌, ◌<◌, false, List, [], ◌∷◌, ◌++◌, length, ◌⊎◌}
+use Rattle.std.specs.Prelude.{◌≡◌, ℕ, ◌+◌, ◌<◌, List, [], ◌∷◌, ◌++◌, length, ◌⊎◌}
 use Rattle.std.specs.Int.{to_be_bytes, w32}
 use Rattle.std.specs.List.{AllByRecursion}
 use Rattle.rm_types.specs.declared.areas.Area.TheVariants.{Log}
 use Rattle.rm_outside.specs.declared.volume.Volume.{Ghosts}
 use Rattle.rm_outside.specs.Images.{Image, KeepsOthers, Shows}
 use Rattle.rm_outside.specs.Moments.{ComesBy, IsDurable}
-use Rattle.rm_outside.specs.Calls.{AllLeft, Counts, Facts, facts_of, IsSame}
+use Rattle.rm_outside.specs.Calls.{AllLeft, Facts, facts_of, IsSame, Writing}
 use Rattle.rm_record.specs.Records.{spelling_all, IsRecord}
 use Rattle.rm_history.specs.Logs.{Batch, gate_of, HasLog}
 use Rattle.rm_wal.specs.Tails.{LogValue}
@@ -38,7 +38,7 @@ HasEither batches batch c = HasLog (c Log) batches ⊎ HasLog (c Log) (batch ∷
 -- The tail is that of the batch, which is to stand after these batches; they are the log of each image
 -- that may be left.
 pub record Tails (gate : ℕ) (tail : List ℕ) (left : Image → Type 0) (batches : List Batch) (batch : Batch) : Type 0 where
-  pub behind : gate ≡ gate_of batches
+  pub gate_is : gate ≡ gate_of batches
   pub spelled : tail ≡ spelling_all batch
   pub records : AllByRecursion IsRecord batch
   pub logs : (c : Image) → left c → HasLog (c Log) batches
@@ -46,10 +46,8 @@ pub record Tails (gate : ℕ) (tail : List ℕ) (left : Image → Type 0) (batch
 -- A flush of the log, however far it gets. A crash at any moment leaves the gate as it was, or the whole tail after
 -- it. So the log of each image is the old one, or that with the tail as its newest batch. The other areas stay.
 pub record Flushing (log : LogValue) (old new : Facts) : Type 0 where
-  pub others : KeepsOthers Log old.content new.content
-  pub any_moment : AllLeft old new (ComesByFlush log.batch (written_tail log.tail) old.may_leave)
+  pub writes : Writing (KeepsOthers Log) (FlushStep log.batch (written_tail log.tail)) old new
   pub logs : (batches : List Batch) (batch : Batch) → Tails log.batch log.tail old.may_leave batches batch → AllLeft old new (HasEither batches batch)
-  pub counts : Counts false false old new
 
 abbrev pub Flushes : {V : Type 0} → Ghosts V → LogValue → V → V → Type 0
 Flushes g log old new = Flushing log (facts_of g old) (facts_of g new) × IsSame g old new
@@ -57,8 +55,7 @@ Flushes g log old new = Flushing log (facts_of g old) (facts_of g new) × IsSame
 -- Where it succeeds the tail is durable after the open gate.
 pub record Done (log : LogValue) (old new : Facts) : Type 0 where
   pub synced : IsDurable Log new.content new.may_leave
-  pub flushed : 0 < length log.tail → (c : Image) → new.may_leave c
-      → IsFlushed log.batch (written_tail log.tail) c × ComesByFlush log.batch (written_tail log.tail) old.may_leave c
+  pub flushed : 0 < length log.tail → (c : Image) → new.may_leave c → IsFlushed log.batch (written_tail log.tail) c
   pub logs : (batches : List Batch) (batch : Batch) → Tails log.batch log.tail old.may_leave batches batch
       → 0 < length log.tail → (c : Image) → new.may_leave c → HasLog (c Log) (batch ∷ batches)
 

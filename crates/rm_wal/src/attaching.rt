@@ -39,12 +39,12 @@ fn read_batches<V: Volume>(alloc: Global, volume: &mut V) -> Result<(Vec<Logged>
 }
 
 impl Log {
-    /// Reads the batches of area Log up to the first gate that is closed: the log that stands behind them with an
+    /// Reads the batches of area Log up to the first gate that is closed: the log that comes after them with an
     /// empty tail, which grows up to `limit` (at most 2^48), and their records. It writes nothing.
     ///
     /// # Errors
     ///
-    /// [`Fault::Damaged`] with area Log: behind an open gate, the offset of a length that is out of range, or else of the
+    /// [`Fault::Damaged`] with area Log: after an open gate, the offset of a length that is out of range, or else of the
     /// first place within the length at which no record stands. [`Fault::Volume`] with area Log, where it failed.
     /// [`StoreFault::NoMemory`].
     pub fn attach<V: Volume>(

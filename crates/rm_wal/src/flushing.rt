@@ -1,9 +1,9 @@
 //! The four calls of a flush.
 
 ghost use Rattle.std.specs.Prelude.{◌≡◌, ℕ, ◌+◌, ◌^◌, ◌≤◌, length, OnOk};
-ghost use Rattle.rm_outside.specs.Images.{Image, KeepsOthers};
-ghost use Rattle.rm_outside.specs.Calls.{AtEachMoment, FailsIn, IsSynced, ReadsNothing};
-ghost use Rattle.rm_wal.specs.Flushing.{ComesByFlush, IsFlushed};
+ghost use Rattle.rm_outside.specs.Images.{Image};
+ghost use Rattle.rm_outside.specs.Calls.{FailsIn, IsSynced, WritesIn};
+ghost use Rattle.rm_wal.specs.Flushing.{FlushStep, IsFlushed};
 
 use rm_outside::{Volume, sync_area, write_area};
 use rm_types::{Area, Fault};
@@ -15,12 +15,9 @@ pub(crate) const OPEN: u8 = 1;
 pub(crate) fn write_batch<V: Volume>(volume: &mut V, gate: u64, bytes: &[u8]) -> Result<(), Fault>
     requires range { gate + (1 + length bytes.now) ≤ 2 ^ 49 }
     requires synced { IsSynced V.Volume Area.Log volume.old }
-    ensures flushed { OnOk result ((c : Image) → V.may_leave volume.new c
-        → IsFlushed gate bytes.now c × ComesByFlush gate bytes.now (V.may_leave volume.old) c) }
+    ensures flushed { OnOk result ((c : Image) → V.may_leave volume.new c → IsFlushed gate bytes.now c) }
     ensures synced { OnOk result (IsSynced V.Volume Area.Log volume.new) }
-    ensures others { KeepsOthers Area.Log (V.content volume.old) (V.content volume.new) }
-    ensures any_moment { AtEachMoment V.Volume volume.old volume.new (ComesByFlush gate bytes.now (V.may_leave volume.old)) }
-    ensures counts { ReadsNothing V.Volume volume.old volume.new }
+    ensures writes { WritesIn V.Volume Area.Log (FlushStep gate bytes.now) volume.old volume.new }
     ensures cause { FailsIn V.Volume Area.Log volume.old volume.new result }
 {
     write_area(volume, Area::Log, gate + 1, bytes)?;

@@ -17,6 +17,7 @@ use rm_record::{LogRecord, MAX_RECORD};
 use rm_types::{Area, Fault, Lsn, NoMemory};
 use std::alloc::Global;
 use std::marker::Model;
+use thiserror::Error;
 
 /// A tail that is longer, in bytes, is flushed before a record is appended. So a batch has room for any record.
 pub const LONG_TAIL: u64 = 1_048_576;
@@ -26,13 +27,15 @@ const _: () = prove!(LONG_TAIL + MAX_RECORD as u64 <= MAX_BATCH);
 /// How many bytes of a batch's header stand in the buffer before its records: the length.
 const LENGTH_BYTES: usize = 4;
 
-/// The log has no room: `end` is the offset that the next record would have.
-#[derive(Clone, Copy, Debug, PartialEq, Eq)]
+/// The log has no room.
+#[derive(Clone, Copy, Debug, PartialEq, Eq, Error)]
+#[error("the log is full: the next record would stand at byte {end}")]
 pub struct LogFull {
+    /// The offset that the next record would have, in bytes.
     pub end: u64,
 }
 
-/// The log in memory, behind the batches of the area that are durable.
+/// The log in memory: what comes after the batches of the area that are durable.
 #[derive(Debug, Drop)]
 pub struct Log {
     // Four bytes for the length of the records, and the records; with room for one byte more.
@@ -67,7 +70,7 @@ fn put_length(bytes: &mut [u8], records: u32)
     bytes[3] = d;
 }
 
-// Puts the length of the records before them, and a closed gate behind them.
+// Puts the length of the records before them, and a closed gate after them.
 fn close(buffer: &mut Vec<u8>)
     requires from { 4 ≤ vec_len buffer.old }
     requires short { vec_len buffer.old ≤ 4 + MAX_BATCH }
@@ -82,7 +85,7 @@ fn close(buffer: &mut Vec<u8>)
 }
 
 impl Log {
-    /// A log with an empty tail behind the gate at `batch`, which grows up to `limit`; both are at most 2^48.
+    /// A log with an empty tail after the gate at `batch`, which grows up to `limit`; both are at most 2^48.
     ///
     /// # Errors
     ///
@@ -155,7 +158,7 @@ impl Log {
         Ok(())
     }
 
-    /// Appends a record, which is not durable yet, and answers its LSN.
+    /// Appends a record, which is not durable yet, and gives its LSN.
     ///
     /// # Errors
     ///

@@ -7,7 +7,7 @@ ghost use Rattle.rm_types.specs.declared.numbers.TheConstants.{MAX_LOG};
 ghost use Rattle.rm_outside.specs.Calls.{HasBytes, OnlyReads, StoreFailsIn};
 ghost use Rattle.rm_history.specs.declared.TheConstants.{BATCH_HEADER};
 ghost use Rattle.rm_history.specs.Logs.{IsInRange};
-ghost use Rattle.rm_wal.specs.Batches.{IsOutOfRange, IsWrongBehind, ReadsHeader, ReadsGate};
+ghost use Rattle.rm_wal.specs.Batches.{IsOutOfRange, IsWrongAfter, ReadsHeader, ReadsGate};
 
 use crate::flushing::OPEN;
 use crate::parsing::{damaged, read_records};
@@ -39,7 +39,7 @@ pub(crate) fn read_bytes<V: Volume>(
     Ok(bytes)
 }
 
-// Whether so many bytes of records may stand behind the gate.
+// Whether `len` bytes of records may stand after the gate.
 fn is_in_range(gate: u64, len: u32) -> bool
     requires { gate ≤ MAX_LOG }
     ensures { IsTrue result ↔ IsInRange gate len }
@@ -67,11 +67,11 @@ fn length_of(gate: u64, header: [u8; HEADER]) -> Result<Option<u32>, StoreFault>
     Ok(Some(len))
 }
 
-// The length of the records behind the gate, None where the gate is closed.
+// The length of the records after the gate, None where the gate is closed.
 fn read_header<V: Volume>(volume: &mut V, gate: u64) -> Result<Option<u32>, StoreFault>
     requires { gate ≤ MAX_LOG }
     ensures found { IfOk result (ReadsHeader (IsTrue V.models_content) (V.content volume.old Area.Log) gate) }
-    ensures damaged { (area : Areas) (at : ℕ) → result ≡ Err (StoreFault.Fault (Fault.Damaged area at)) → (area ≡ Area.Log) × (IsTrue V.models_content → IsWrongBehind (V.content volume.old Area.Log) gate at) }
+    ensures damaged { (area : Areas) (at : ℕ) → result ≡ Err (StoreFault.Fault (Fault.Damaged area at)) → (area ≡ Area.Log) × (IsTrue V.models_content → IsWrongAfter (V.content volume.old Area.Log) gate at) }
     ensures cause { StoreFailsIn V.Volume Area.Log volume.old volume.new result }
     ensures reads { OnlyReads V.Volume Area.Log volume.old volume.new }
 {
@@ -80,7 +80,7 @@ fn read_header<V: Volume>(volume: &mut V, gate: u64) -> Result<Option<u32>, Stor
     length_of(gate, header)
 }
 
-/// Appends the records of the batch behind that gate and answers the next gate; None where the gate is closed.
+/// Appends the records of the batch after that gate and gives the next gate; None where the gate is closed.
 pub(crate) fn read_batch<V: Volume>(
     alloc: Global,
     volume: &mut V,
@@ -89,7 +89,7 @@ pub(crate) fn read_batch<V: Volume>(
 ) -> Result<Option<u64>, StoreFault>
     requires { gate ≤ MAX_LOG }
     ensures found { IfOk result (ReadsGate (IsTrue V.models_content) (V.content volume.old Area.Log) gate records.old.items records.new.items) }
-    ensures damaged { (area : Areas) (at : ℕ) → result ≡ Err (StoreFault.Fault (Fault.Damaged area at)) → (area ≡ Area.Log) × (IsTrue V.models_content → IsWrongBehind (V.content volume.old Area.Log) gate at) }
+    ensures damaged { (area : Areas) (at : ℕ) → result ≡ Err (StoreFault.Fault (Fault.Damaged area at)) → (area ≡ Area.Log) × (IsTrue V.models_content → IsWrongAfter (V.content volume.old Area.Log) gate at) }
     ensures cause { StoreFailsIn V.Volume Area.Log volume.old volume.new result }
     ensures reads { OnlyReads V.Volume Area.Log volume.old volume.new }
 {

@@ -3,7 +3,7 @@ use Rattle.std.proofs.lemmas.Result.{err_from_is_err_and}
 use Rattle.rm_types.specs.declared.areas.Area.TheVariants.{Log}
 use Rattle.rm_outside.specs.Images.{Image}
 use Rattle.rm_outside.proofs.CallLemmas.{reads_none, reads_then}
-use Rattle.rm_wal.specs.Batches.{ReadsBatch, IsWrongBehind}
+use Rattle.rm_wal.specs.Batches.{ReadsBatch, IsWrongAfter}
 use Rattle.rm_wal.proofs.AttachSteps.{reads_no_batch, reads_next_batch, gates_rise, damaged_there}
 use Rattle.rm_wal.proofs.attaching.read_batches.Goals as goal
 
@@ -26,8 +26,8 @@ loop-records-preserved g c =
     }
 
 pub returns-in_err-next-clause-damaged : goal.returns-in_err-next-clause-damaged
-returns-in_err-next-clause-damaged g c = λ area at told.
+returns-in_err-next-clause-damaged g c = λ area at modelled.
     let there = c.loop-records.invariant in
     let passed = err_from_is_err_and c.from_residual.result c.from_residual.ensures.1 in
     let damaged = c.in_err-next.ensures.damaged area at cc in
-    (damaged.0, λ tells. damaged_there there.before tells (subst (λ (image : Image). IsWrongBehind (image Log) c.loop-records.gate at) there.reads.0.content (damaged.1 tells)))
+    (damaged.0, λ models. damaged_there there.before models (subst (λ (image : Image). IsWrongAfter (image Log) c.loop-records.gate at) there.reads.0.content (damaged.1 models)))
