@@ -1,7 +1,7 @@
 -- The pending changes of all transactions in one list, and those of each transaction.
 use Rattle.std.proofs.Common.{◌≡◌, inl, inr, ℕ, ◌==◌, if◌then◌else◌, cond, eqb, List, [], ◌∷◌, refl, sym, ap, ◌∙◌}
 use Rattle.std.proofs.lemmas.Bool.{cases_eq, eq-eqb, ne_eqb}
-use Rattle.rm_history.specs.Acts.{Change, Undo, Finish, History, changes, undoes, enters, commits, ends, lists}
+use Rattle.rm_history.specs.Acts.{Change, Undo, Finish, History, changes, undoes, enters, commits, ends, marks}
 use Rattle.rm_history.specs.Pending.{older, pending_of, without_newest, without, all_pending}
 
 -- the changes that are of a transaction
@@ -74,7 +74,7 @@ pending_of-all (undoes u ∷ before) txn = pending_of_undone txn u (pending_of b
 pending_of-all (enters e ∷ before) txn = pending_of-all before txn
 pending_of-all (commits f ∷ before) txn = pending_of_finished txn f (pending_of before txn) (all_pending before) (pending_of-all before txn)
 pending_of-all (ends f ∷ before) txn = pending_of_finished txn f (pending_of before txn) (all_pending before) (pending_of-all before txn)
-pending_of-all (lists l ∷ before) txn = pending_of-all before txn
+pending_of-all (marks m ∷ before) txn = pending_of-all before txn
 
 -- the transaction of the newest of all has it as its newest
 pub pending_of-newest : (history : History) (last : Change) (rest : List Change) → all_pending history ≡ last ∷ rest → pending_of history last.txn ≡ last ∷ of_txn last.txn rest

@@ -1,9 +1,9 @@
-pub mod Behind
-pub mod Told
+pub mod Appending
+pub mod RecordsOfActs
 pub mod RowIds
 pub mod Readings
 pub mod Damages
-pub mod Fronts
+pub mod Prefixes
 pub mod PendingSteps
 pub mod PendingLaws
 pub mod LeadsBack

@@ -1,7 +1,7 @@
 -- The losers of a history are the transactions that have a record and are not finished.
 use Rattle.std.proofs.Common.{◌≡◌, ◌⊎◌, inl, inr, ℕ, ◌<◌, List, [], ◌∷◌, refl, sym, ap, subst, ◌∙◌, arith}
 use Rattle.std.proofs.lemmas.Bool.{cases_eq, cases_lt, eq-eqb, ne_eqb, lt-ltb, le-ltb}
-use Rattle.rm_history.specs.Acts.{History, changes, undoes, enters, commits, ends, lists}
+use Rattle.rm_history.specs.Acts.{History, changes, undoes, enters, commits, ends, marks}
 use Rattle.rm_history.specs.Transactions.{IsFinished, HasRecord}
 use Rattle.rm_history.specs.Rules.{IsInOrder}
 use Rattle.rm_history.specs.Losers.{with_number, without_number, losers_of}
@@ -118,7 +118,7 @@ losers_rise (undoes u ∷ before) = with_number-rise u.txn (losers_of before) (l
 losers_rise (enters e ∷ before) = with_number-rise e.txn (losers_of before) (losers_rise before)
 losers_rise (commits f ∷ before) = without_number-rise f.txn (losers_of before) (losers_rise before)
 losers_rise (ends f ∷ before) = without_number-rise f.txn (losers_of before) (losers_rise before)
-losers_rise (lists l ∷ before) = losers_rise before
+losers_rise (marks m ∷ before) = losers_rise before
 
 -- a record of a transaction makes it a loser
 loser_more : (named txn : ℕ) (before : History) → (HasRecord before txn → IsFinished before txn ⊎ IsAmong (losers_of before) txn)
@@ -149,7 +149,7 @@ losers_are_all (undoes u ∷ before) txn = loser_more u.txn txn before (losers_a
 losers_are_all (enters e ∷ before) txn = loser_more e.txn txn before (losers_are_all before txn)
 losers_are_all (commits f ∷ before) txn = loser_less f.txn txn before (losers_are_all before txn)
 losers_are_all (ends f ∷ before) txn = loser_less f.txn txn before (losers_are_all before txn)
-losers_are_all (lists l ∷ before) txn = losers_are_all before txn
+losers_are_all (marks m ∷ before) txn = losers_are_all before txn
 
 -- a record is one of the transaction that it makes a loser
 record_more : (named txn : ℕ) (before : History) → (IsAmong (losers_of before) txn → HasRecord before txn)
@@ -164,7 +164,7 @@ losers_have_records (undoes u ∷ before) txn = record_more u.txn txn before (lo
 losers_have_records (enters e ∷ before) txn = record_more e.txn txn before (losers_have_records before txn)
 losers_have_records (commits f ∷ before) txn = λ loses. inr (losers_have_records before txn (without_number-only f.txn txn (losers_of before) loses))
 losers_have_records (ends f ∷ before) txn = λ loses. inr (losers_have_records before txn (without_number-only f.txn txn (losers_of before) loses))
-losers_have_records (lists l ∷ before) txn = losers_have_records before txn
+losers_have_records (marks m ∷ before) txn = losers_have_records before txn
 
 -- a record is of a transaction that is not finished
 unfinished_more : (named txn : ℕ) (before : History) → (IsFinished before named → ⊥) → (IsAmong (losers_of before) txn → IsFinished before txn → ⊥)
@@ -189,4 +189,4 @@ losers_are_unfinished (undoes u ∷ before) ordered txn = unfinished_more u.txn 
 losers_are_unfinished (enters e ∷ before) ordered txn = unfinished_more e.txn txn before ordered.1.may_come.unfinished (losers_are_unfinished before ordered.0 txn)
 losers_are_unfinished (commits f ∷ before) ordered txn = unfinished_less f.txn txn before (losers_are_unfinished before ordered.0 txn)
 losers_are_unfinished (ends f ∷ before) ordered txn = unfinished_less f.txn txn before (losers_are_unfinished before ordered.0 txn)
-losers_are_unfinished (lists l ∷ before) ordered txn = losers_are_unfinished before ordered.0 txn
+losers_are_unfinished (marks m ∷ before) ordered txn = losers_are_unfinished before ordered.0 txn

@@ -4,7 +4,7 @@ use Rattle.std.proofs.lemmas.Bool.{cases_eq}
 use Rattle.rm_types.specs.declared.formats.Format.{Format}
 use Rattle.rm_types.specs.declared.numbers.Rid.{Rid}
 use Rattle.rm_model.specs.Object.{Rows}
-use Rattle.rm_history.specs.Acts.{Change, History, changes, undoes, enters, commits, ends, lists, newest_lsn}
+use Rattle.rm_history.specs.Acts.{Change, History, changes, undoes, enters, commits, ends, marks, newest_lsn}
 use Rattle.rm_history.specs.Contents.{page_of, entry_of, category_of}
 use Rattle.rm_history.specs.Pending.{pending_of, without_newest, all_pending}
 use Rattle.rm_history.specs.Transactions.{IsFinished, HasRecord, HasChange}
@@ -13,8 +13,8 @@ use Rattle.rm_history.specs.Needs.{on_page}
 use Rattle.rm_history.specs.Legal.{IsLegal}
 use Rattle.rm_history.specs.Losers.{losers_of}
 use Rattle.rm_history.specs.Undoing.{category_after, entry_for, undo_for, Settles, Undone, AllUndone, AllEnded}
-use Rattle.rm_history.specs.UndoLaws.{IsUndone, RestartsAreLegal, RestartsAreThere}
-use Rattle.rm_history.proofs.Fronts.{legal_is_in_order}
+use Rattle.rm_history.specs.UndoLaws.{IsUndone, RestartsAreLegal, RestartsExist}
+use Rattle.rm_history.proofs.Prefixes.{legal_is_in_order}
 use Rattle.rm_history.proofs.PendingLaws.{changed_none, changed_has_change}
 use Rattle.rm_history.proofs.Chains.{last_is_changed, last_is_unfinished}
 use Rattle.rm_history.proofs.Holding.{pages_hold_what_is_committed}
@@ -59,8 +59,8 @@ all_ended_there before (txn ∷ rest) =
     (more.0, (mid, record { lsn = lsn; above = omega arith; new_is = refl }, more.1))
 
 -- so all that is pending is undone, and all losers end
-pub restarts_are_there : RestartsAreThere
-restarts_are_there format before =
+pub restarts_exist : RestartsExist
+restarts_exist format before =
     let undone = all_undone_there format before (all_pending before) in
     let ended = all_ended_there undone.0 (losers_of before) in
     (ended.0, record { undone = undone.0; undoes_all = undone.1; ends_all = ended.1 })
@@ -109,7 +109,7 @@ change_is_record (undoes u ∷ before) txn rid = λ has. inr (change_is_record b
 change_is_record (enters e ∷ before) txn rid = λ has. inr (change_is_record before txn rid has)
 change_is_record (commits f ∷ before) txn rid = λ has. inr (change_is_record before txn rid has)
 change_is_record (ends f ∷ before) txn rid = λ has. inr (change_is_record before txn rid has)
-change_is_record (lists l ∷ before) txn rid = change_is_record before txn rid
+change_is_record (marks m ∷ before) txn rid = change_is_record before txn rid
 
 -- the transaction of the newest of all that is pending has a record
 pub newest_has_record : (history : History) (last : Change) (rest : List Change) → all_pending history ≡ last ∷ rest → HasRecord history last.txn

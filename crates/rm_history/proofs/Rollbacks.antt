@@ -10,7 +10,7 @@ use Rattle.rm_history.specs.Rules.{MayEnd}
 use Rattle.rm_history.specs.Legal.{EntriesFollow, IsLegal}
 use Rattle.rm_history.specs.Undoing.{AllUndone, Ended}
 use Rattle.rm_history.specs.UndoLaws.{RollbacksAreLegal}
-use Rattle.rm_history.proofs.Fronts.{legal_is_in_order}
+use Rattle.rm_history.proofs.Prefixes.{legal_is_in_order}
 use Rattle.rm_history.proofs.ChainSteps.{pending-ended}
 use Rattle.rm_history.proofs.NeedSums.{sum_below-same}
 use Rattle.rm_history.proofs.UndoTheorem.{fits_in_order, entries_follow, no_undo_lacks_room}

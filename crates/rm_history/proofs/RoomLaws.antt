@@ -7,7 +7,7 @@ use Rattle.rm_types.specs.declared.slots.Slot.TheVariants.{Vacant, Row}
 use Rattle.rm_types.specs.declared.slots.TheConstants.{CAPACITY}
 use Rattle.rm_model.specs.Pages.{used, row_length, set_slot}
 use Rattle.rm_model.proofs.Slots.{used-set_slot}
-use Rattle.rm_history.specs.Acts.{Change, History, changes, undoes, enters, commits, ends, lists}
+use Rattle.rm_history.specs.Acts.{Change, History, changes, undoes, enters, commits, ends, marks}
 use Rattle.rm_history.specs.Contents.{slot_at, page_of}
 use Rattle.rm_history.specs.Pending.{older, pending_of}
 use Rattle.rm_history.specs.Transactions.{greatest_txn}
@@ -89,7 +89,7 @@ pending_past (undoes u ∷ before) txn past = if_different u.txn txn (older (pen
 pending_past (enters e ∷ before) txn past = pending_past before txn (omega (arith, past))
 pending_past (commits f ∷ before) txn past = if_different f.txn txn [] (pending_of before txn) (λ same. omega (arith, same, past)) ∙ pending_past before txn (omega (arith, past))
 pending_past (ends f ∷ before) txn past = if_different f.txn txn [] (pending_of before txn) (λ same. omega (arith, same, past)) ∙ pending_past before txn (omega (arith, past))
-pending_past (lists l ∷ before) txn past = pending_past before txn past
+pending_past (marks m ∷ before) txn past = pending_past before txn past
 
 -- so it needs nothing
 need_past : (history : History) (page txn : ℕ) → greatest_txn history + 1 ≤ txn → need_of history txn page ≡ 0

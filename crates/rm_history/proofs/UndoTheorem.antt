@@ -15,7 +15,7 @@ use Rattle.rm_history.specs.Legal.{IsKept, IsPendingOn, EntriesFollow, IsLegal}
 use Rattle.rm_history.specs.Undoing.{category_after, entry_for, undo_for, Settles, Undone}
 use Rattle.rm_history.specs.UndoLaws.{IsUndone, UndoesAreInOrder, NoUndoLacksRoom}
 use Rattle.rm_history.proofs.NeedSums.{room_kept, used-inside, on_page-here, on_page-elsewhere, pending_of-undo, need_of-undo, need_of-undo_elsewhere, need_of-undo_other}
-use Rattle.rm_history.proofs.Fronts.{legal_is_in_order}
+use Rattle.rm_history.proofs.Prefixes.{legal_is_in_order}
 use Rattle.rm_history.proofs.PendingSteps.{pending-undo_other}
 use Rattle.rm_history.proofs.Chains.{last_is_of, last_is_inside, last_is_held}
 

@@ -17,9 +17,9 @@ use Rattle.rm_history.specs.Legal.{IsLegal}
 abbrev pub LogsAreOne : Type 0
 LogsAreOne = (area : Bytes) (batches others : List Batch) → HasLog area batches → HasLog area others → batches ≡ others
 
--- what a record does, with its LSN, tells the record
-abbrev pub ActsTellRecords : Type 0
-ActsTellRecords = (one other : Logged) → act_of one ≡ act_of other → one ≡ other
+-- no two records do the same with the same LSN
+abbrev pub ActsDetermineRecords : Type 0
+ActsDetermineRecords = (one other : Logged) → act_of one ≡ act_of other → one ≡ other
 
 -- each change names the next one as the pending record below it, and the oldest names none
 abbrev pub AreChained : List Change → Type 0
@@ -33,17 +33,17 @@ IsChanged (newest ∷ before) rid = (newest.rid ≡ rid) ⊎ IsChanged before ri
 
 -- a log without records is legal
 abbrev pub EmptyIsLegal : Type 0
-EmptyIsLegal = (format : Format) → IsLegal format []
+EmptyIsLegal = (start : Format) → IsLegal start []
 
 -- what stands before the newest records is in order, and legal where they are
-abbrev pub FrontsAreInOrder : Type 0
-FrontsAreInOrder = (newest before : History) → IsInOrder (newest ++ before) → IsInOrder before
+abbrev pub PrefixesAreInOrder : Type 0
+PrefixesAreInOrder = (newest before : History) → IsInOrder (newest ++ before) → IsInOrder before
 
-abbrev pub LegalFronts : Type 0
-LegalFronts = (format : Format) (newest before : History) → IsLegal format (newest ++ before) → IsLegal format before
+abbrev pub LegalPrefixes : Type 0
+LegalPrefixes = (start : Format) (newest before : History) → IsLegal start (newest ++ before) → IsLegal start before
 
 abbrev pub LegalIsInOrder : Type 0
-LegalIsInOrder = (format : Format) (history : History) → IsLegal format history → IsInOrder history
+LegalIsInOrder = (start : Format) (history : History) → IsLegal start history → IsInOrder history
 
 -- The pending changes of a transaction are a chain, and those on one row id are of one transaction.
 abbrev pub PendingIsChained : Type 0

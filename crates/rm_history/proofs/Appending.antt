@@ -7,7 +7,7 @@ use Rattle.rm_record.specs.Records.{spelling, spelling_all}
 use Rattle.rm_history.specs.declared.TheConstants.{BATCH_HEADER}
 use Rattle.rm_history.specs.Logs.{Batch, gate_of}
 use Rattle.rm_history.specs.Acts.{History, act_at, act_of, acts_onto, acts_of, lsn_of, newest_lsn}
-use Rattle.rm_history.specs.Batched.{acts_behind, acts_of_batches}
+use Rattle.rm_history.specs.Batched.{acts_after, acts_of_batches}
 use Rattle.rm_history.proofs.Readings.{spelling_long}
 
 pub length-spelling_all : (next : LogRecord) (records : List LogRecord) → length (spelling_all (next ∷ records)) ≡ length (spelling next) + length (spelling_all records)
@@ -16,18 +16,18 @@ length-spelling_all next records = length-append (spelling next) (spelling_all r
 -- ---- records behind a history
 
 -- first some records, then others
-pub acts_behind-append : (history : History) (at : ℕ) (first second : List LogRecord)
-    → acts_behind history at (first ++ second) ≡ acts_behind (acts_behind history at first) (at + length (spelling_all first)) second
-acts_behind-append history at [] second = rw add-zero refl
-acts_behind-append history at (next ∷ first) second =
+pub acts_after-append : (history : History) (at : ℕ) (first second : List LogRecord)
+    → acts_after history at (first ++ second) ≡ acts_after (acts_after history at first) (at + length (spelling_all first)) second
+acts_after-append history at [] second = rw add-zero refl
+acts_after-append history at (next ∷ first) second =
     let here : History = act_at at next ∷ history in
-    acts_behind-append here (at + length (spelling next)) first second
-    ∙ ap (λ (n : ℕ). acts_behind (acts_behind here (at + length (spelling next)) first) n second) (omega (arith, length-spelling_all next first))
+    acts_after-append here (at + length (spelling next)) first second
+    ∙ ap (λ (n : ℕ). acts_after (acts_after here (at + length (spelling next)) first) n second) (omega (arith, length-spelling_all next first))
 
 -- the newest record
-pub acts_behind-snoc : (history : History) (at : ℕ) (records : List LogRecord) (next : LogRecord)
-    → acts_behind history at (records ++ next ∷ []) ≡ act_at (at + length (spelling_all records)) next ∷ acts_behind history at records
-acts_behind-snoc history at records next = acts_behind-append history at records (next ∷ [])
+pub acts_after-snoc : (history : History) (at : ℕ) (records : List LogRecord) (next : LogRecord)
+    → acts_after history at (records ++ next ∷ []) ≡ act_at (at + length (spelling_all records)) next ∷ acts_after history at records
+acts_after-snoc history at records next = acts_after-append history at records (next ∷ [])
 
 -- ---- the history of a log
 
@@ -54,7 +54,7 @@ lsn_of-act_at at (End txn) = refl
 lsn_of-act_at at (Checkpoint next losers pages blocks) = refl
 
 -- it is below the offset where the next record comes, behind some records
-pub newest_below : (history : History) (at : ℕ) (records : List LogRecord) → newest_lsn history < at → newest_lsn (acts_behind history at records) < at + length (spelling_all records)
+pub newest_below : (history : History) (at : ℕ) (records : List LogRecord) → newest_lsn history < at → newest_lsn (acts_after history at records) < at + length (spelling_all records)
 newest_below history at [] below = omega arith
 newest_below history at (next ∷ records) below =
     let rest = newest_below (act_at at next ∷ history) (at + length (spelling next)) records (omega (arith, lsn_of-act_at at next, spelling_long next)) in

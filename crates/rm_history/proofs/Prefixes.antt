@@ -1,16 +1,16 @@
 -- What stands before the newest records of a history.
 use Rattle.std.proofs.Common.{[], ◌∷◌}
-use Rattle.rm_history.specs.Laws.{EmptyIsLegal, FrontsAreInOrder, LegalFronts, LegalIsInOrder}
+use Rattle.rm_history.specs.Laws.{EmptyIsLegal, PrefixesAreInOrder, LegalPrefixes, LegalIsInOrder}
 
 -- what stands before the newest records is in order
-pub fronts_are_in_order : FrontsAreInOrder
-fronts_are_in_order [] before ordered = ordered
-fronts_are_in_order (act ∷ newest) before ordered = fronts_are_in_order newest before ordered.0
+pub prefixes_are_in_order : PrefixesAreInOrder
+prefixes_are_in_order [] before ordered = ordered
+prefixes_are_in_order (act ∷ newest) before ordered = prefixes_are_in_order newest before ordered.0
 
 -- what stands before the newest records is legal
-pub legal_fronts : LegalFronts
-legal_fronts format [] before legal = legal
-legal_fronts format (act ∷ newest) before legal = legal_fronts format newest before legal.0
+pub legal_prefixes : LegalPrefixes
+legal_prefixes format [] before legal = legal
+legal_prefixes format (act ∷ newest) before legal = legal_prefixes format newest before legal.0
 
 -- a legal history is in order
 pub legal_is_in_order : LegalIsInOrder
