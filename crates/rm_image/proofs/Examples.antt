@@ -1,9 +1,7 @@
--- The definitions of blocks, redo, checkpoints and copies, on examples.
+-- The definitions of redo, checkpoints and copies, on examples.
 use Rattle.std.proofs.Common.{◌≡◌, ℕ, List, [], ◌∷◌, inl, inr, refl, arith, lit<, lit≤}
-use Rattle.rm_types.specs.declared.formats.Format.TheVariants.{One}
 use Rattle.rm_types.specs.declared.slots.Slot.TheVariants.{Vacant, Row}
 use Rattle.rm_history.specs.Acts.{Change, Finish, History, changes, enters, commits}
-use Rattle.rm_image.specs.Blocks.{entry_in, IsRowAt, AreApart, blocks_of}
 use Rattle.rm_image.specs.Standing.{StandsFor}
 use Rattle.rm_image.specs.Checkpoints.{place_or, least_of}
 use Rattle.rm_image.specs.Redo.{PageBlock, EntriesBlock, page_redone, entries_redone}
@@ -26,7 +24,7 @@ history = commits commit ∷ changes insert ∷ []
 abbrev gates : ℕ → ℕ
 gates lsn = 0
 
--- a block of zeros lacks the insert, which its redo offset allows; behind the batch it may lack no record
+-- a block of zeros lacks the insert, which its redo offset allows; after the batch it may lack no record
 lacks_it : StandsFor gates history 0 0 [] 0
 lacks_it = (λ le. absurd (omega (arith, le)), λ lt. (λ on. absurd on, (λ le. absurd (omega (arith, le)), λ more. (λ on. omega arith, (refl, refl)))))
 
@@ -71,32 +69,6 @@ no_entries = record { version = 0; entries = λ index. 0 }
 sets_entry : ((entries_redone gates 0 0 entered no_entries).version ≡ 39) × ((entries_redone gates 0 0 entered no_entries).entries 1 ≡ 3)
     × ((entries_redone gates 0 0 entered no_entries).entries 0 ≡ 0) × ((entries_redone gates 0 1 entered no_entries).version ≡ 0)
 sets_entry = (refl, refl, refl, refl)
-
--- a row that ends where its block does, and one byte further
-ends_there : IsRowAt 1 4095 row
-ends_there = record { behind = lit≤ tt; short = lit≤ tt; inside = lit≤ tt }
-
-too_far : IsRowAt 1 4096 row → ⊥
-too_far at = omega (arith, at.inside)
-
--- and one that lies in the directory
-in_directory : IsRowAt 1 19 row → ⊥
-in_directory at = omega (arith, at.behind)
-
--- rows beside each other are apart, and rows of no bytes are anywhere
-beside : AreApart 100 (Row row) 101 (Row row)
-beside = inr (inr (inl (lit≤ tt)))
-
-empty : AreApart 100 (Row row) 100 (Row [])
-empty = inr (inl refl)
-
--- the four entries of a byte, the first in its lowest bits
-four_entries : (entry_in One 228 0 ≡ 0) × (entry_in One 228 1 ≡ 1) × (entry_in One 228 2 ≡ 2) × (entry_in One 228 3 ≡ 3)
-four_entries = (refl, refl, refl, refl)
-
--- the blocks of the inventory that so many pages want
-some_blocks : (blocks_of 1 ≡ 1) × (blocks_of 1024 ≡ 1) × (blocks_of 1025 ≡ 2) × (blocks_of 16384 ≡ 16)
-some_blocks = (refl, refl, refl, refl)
 
 -- a listed block has its own offset, any other that of the batch
 listed : (place_or (record { number = 3; at = 10 } ∷ []) 3 99 ≡ 10) × (place_or (record { number = 3; at = 10 } ∷ []) 4 99 ≡ 99)

@@ -1,4 +1,4 @@
--- A block stands for a history just where it has a front of it.
+-- A block stands for a history just where it has a prefix of it.
 use Rattle.std.proofs.Common.{◌≡◌, ℕ, ◌+◌, ◌*◌, ◌/◌, ◌≤◌, ◌<◌, ◌==◌, Bool, true, false, cond, List, [], ◌∷◌, refl, sym, ap, ◌∙◌, arith}
 use Rattle.std.proofs.lemmas.Bool.{eq-eqb, ne_eqb}
 use Rattle.rm_types.specs.declared.slots.Slot.{Slot}
@@ -7,8 +7,8 @@ use Rattle.rm_history.specs.Acts.{Act, History, changes, undoes, enters, lsn_of,
 use Rattle.rm_history.specs.Contents.{page_of, version_of, entry_of, block_version_of}
 use Rattle.rm_history.specs.Rules.{IsInOrder}
 use Rattle.rm_image.specs.Standing.{IsOnPage, IsInBlock, HoldsPage, HoldsEntries}
-use Rattle.rm_image.specs.Laws.{BlocksHaveFronts, InventoryBlocksHaveFronts}
-use Rattle.rm_image.proofs.FrontLemmas.{IsBlock, fronts}
+use Rattle.rm_image.specs.Laws.{BlocksHavePrefixes, InventoryBlocksHavePrefixes}
+use Rattle.rm_image.proofs.PrefixLemmas.{IsBlock, prefixes}
 
 -- each of two numbers is within a bound: so is the one that is taken
 cond-le : (test : Bool) (a b bound : ℕ) → a ≤ bound → b ≤ bound → cond test a b ≤ bound
@@ -42,8 +42,8 @@ module _ (page : ℕ) where
   version_within (other ∷ before) ordered = omega (arith, version_within before ordered.0, ordered.1.above)
 
   module _ (gates : ℕ → ℕ) (version : ℕ) (slots : List Slot) (redo : ℕ) where
-    -- so the front lemmas hold of a page's block
-    is_block : IsBlock (HoldsPage page version slots) (IsOnPage page) gates version redo
+    -- so the lemmas on prefixes hold of a page's block
+    pub is_block : IsBlock (HoldsPage page version slots) (IsOnPage page) gates version redo
     is_block = record {
       stays = λ act before off holds. (holds.0 ∙ sym (version_off act before off), holds.1 ∙ sym (page_off act before off));
       was = λ act before off holds. (holds.0 ∙ version_off act before off, holds.1 ∙ page_off act before off);
@@ -51,10 +51,10 @@ module _ (page : ℕ) where
       within = λ history ordered holds. omega (arith, holds.0, version_within history ordered);
     }
 
--- what is said of a page's block record by record, and of a front, is one
-pub blocks_have_fronts : BlocksHaveFronts
-blocks_have_fronts gates history page version slots redo ordered rise =
-    fronts (HoldsPage page version slots) (IsOnPage page) gates version redo (is_block page gates version slots redo) rise history ordered
+-- what is said of a page's block record by record, and of a prefix, is one
+pub blocks_have_prefixes : BlocksHavePrefixes
+blocks_have_prefixes gates history page version slots redo ordered rise =
+    prefixes (HoldsPage page version slots) (IsOnPage page) gates version redo (is_block page gates version slots redo) rise history ordered
 
 -- ---- a block of the inventory
 
@@ -88,7 +88,7 @@ module _ (block : ℕ) where
 
   module _ (gates : ℕ → ℕ) (version : ℕ) (entries : ℕ → ℕ) (redo : ℕ) where
     -- and of a block of the inventory
-    is_entries_block : IsBlock (HoldsEntries block version entries) (IsInBlock block) gates version redo
+    pub is_entries_block : IsBlock (HoldsEntries block version entries) (IsInBlock block) gates version redo
     is_entries_block = record {
       stays = λ act before off holds. (
         holds.0 ∙ sym (block_version_off act before off),
@@ -103,6 +103,6 @@ module _ (block : ℕ) where
     }
 
 -- and so is what is said of a block of the inventory
-pub inventory_blocks_have_fronts : InventoryBlocksHaveFronts
-inventory_blocks_have_fronts gates history block version entries redo ordered rise =
-    fronts (HoldsEntries block version entries) (IsInBlock block) gates version redo (is_entries_block block gates version entries redo) rise history ordered
+pub inventory_blocks_have_prefixes : InventoryBlocksHavePrefixes
+inventory_blocks_have_prefixes gates history block version entries redo ordered rise =
+    prefixes (HoldsEntries block version entries) (IsInBlock block) gates version redo (is_entries_block block gates version entries redo) rise history ordered
