@@ -1,13 +1,8 @@
 -- The pending changes of all transactions in one list, and those of each transaction.
-use Rattle.std.proofs.Common.{◌≡◌, inl, inr, ℕ, ◌==◌, if◌then◌else◌, cond, eqb, List, [], ◌∷◌, refl, sym, ap, ◌∙◌}
+use Rattle.std.proofs.Common.{◌≡◌, inl, inr, ℕ, cond, eqb, List, [], ◌∷◌, refl, sym, ap, ◌∙◌}
 use Rattle.std.proofs.lemmas.Bool.{cases_eq, eq-eqb, ne_eqb}
 use Rattle.rm_history.specs.Acts.{Change, Undo, Finish, History, changes, undoes, enters, commits, ends, marks}
-use Rattle.rm_history.specs.Pending.{older, pending_of, without_newest, without, all_pending}
-
--- the changes that are of a transaction
-abbrev pub of_txn : ℕ → List Change → List Change
-of_txn txn [] = []
-of_txn txn (newest ∷ before) = if newest.txn == txn then newest ∷ of_txn txn before else of_txn txn before
+use Rattle.rm_history.specs.Pending.{older, pending_of, of_txn, without_newest, without, all_pending}
 
 -- the newest of the list is its transaction's newest
 pub of_txn-newest : (last : Change) (rest : List Change) → of_txn last.txn (last ∷ rest) ≡ last ∷ of_txn last.txn rest

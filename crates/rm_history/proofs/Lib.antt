@@ -10,6 +10,8 @@ pub mod LeadsBack
 pub mod ChainSteps
 pub mod Chains
 pub mod Holding
+pub mod Finished
+pub mod Elsewhere
 pub mod NeedLaws
 pub mod NetLists
 pub mod ChangeLsns
@@ -21,6 +23,7 @@ pub mod RoomLaws
 pub mod UndoTheorem
 pub mod Rollbacks
 pub mod AllPending
+pub mod FallingLsns
 pub mod Losers
 pub mod Restarts
 pub mod UndoBytes

@@ -4,17 +4,8 @@ use Rattle.std.proofs.lemmas.Bool.{cases_eq, cases_lt, eq-eqb, ne_eqb, lt-ltb, l
 use Rattle.rm_history.specs.Acts.{History, changes, undoes, enters, commits, ends, marks}
 use Rattle.rm_history.specs.Transactions.{IsFinished, HasRecord}
 use Rattle.rm_history.specs.Rules.{IsInOrder}
-use Rattle.rm_history.specs.Losers.{with_number, without_number, losers_of}
-
--- the number is in the list
-abbrev pub IsAmong : List ℕ → ℕ → Type 0
-IsAmong [] n = ⊥
-IsAmong (first ∷ rest) n = (first ≡ n) ⊎ IsAmong rest n
-
--- each number of the list is above those before it
-abbrev pub Rise : List ℕ → Type 0
-Rise [] = Unit {0}
-Rise (first ∷ rest) = ((n : ℕ) → IsAmong rest n → first < n) × Rise rest
+use Rattle.rm_history.specs.Laws.{LosersAreUnfinished}
+use Rattle.rm_history.specs.Losers.{with_number, without_number, losers_of, IsAmong, AreRising}
 
 -- ---- a list with a number more, and without one
 
@@ -63,7 +54,7 @@ with_number-only n k (first ∷ rest) =
     ])
 
 -- numbers that rise are the same with one of them
-pub with_number-kept : (n : ℕ) (all : List ℕ) → Rise all → IsAmong all n → with_number n all ≡ all
+pub with_number-kept : (n : ℕ) (all : List ℕ) → AreRising all → IsAmong all n → with_number n all ≡ all
 with_number-kept n [] rise among = absurd among
 with_number-kept n (first ∷ rest) rise (inl here) = rw (le-ltb n first (omega (arith, here)), eq-eqb n first (sym here))
 with_number-kept n (first ∷ rest) rise (inr there) =
@@ -71,10 +62,10 @@ with_number-kept n (first ∷ rest) rise (inr there) =
     rw (le-ltb n first (omega arith), ne_eqb n first (λ same. let less : n ≡ first = same in absurd (omega arith))) (ap (λ (l : List ℕ). first ∷ l) (with_number-kept n rest rise.1 there))
 
 -- numbers that rise do so with one more
-with_number-rise : (n : ℕ) (all : List ℕ) → Rise all → Rise (with_number n all)
+with_number-rise : (n : ℕ) (all : List ℕ) → AreRising all → AreRising (with_number n all)
 with_number-rise n [] rise = (λ k. elim [ ], tt)
 with_number-rise n (first ∷ rest) rise =
-    with_number_cases Rise n first rest
+    with_number_cases AreRising n first rest
     (λ below. (λ k. elim [ inl here ↦ omega arith | inr there ↦ let more : first < k = rise.0 k there in omega arith ], rise))
     (λ same. rise)
     (λ above. (λ k among. elim (with_number-only n k rest among) [ inl is ↦ omega arith | inr had ↦ rise.0 k had ], with_number-rise n rest rise.1))
@@ -95,7 +86,7 @@ without_number-only n k (first ∷ rest) =
     (λ other. elim [ inl here ↦ inl here | inr there ↦ inr (without_number-only n k rest there) ])
 
 -- from numbers that rise it is gone
-without_number-gone : (n : ℕ) (all : List ℕ) → Rise all → IsAmong (without_number n all) n → ⊥
+without_number-gone : (n : ℕ) (all : List ℕ) → AreRising all → IsAmong (without_number n all) n → ⊥
 without_number-gone n [] rise = λ among. among
 without_number-gone n (first ∷ rest) rise =
     without_number_cases (λ l. IsAmong l n → ⊥) n first rest
@@ -103,15 +94,15 @@ without_number-gone n (first ∷ rest) rise =
     (λ other. elim [ inl here ↦ other (sym here) | inr there ↦ without_number-gone n rest rise.1 there ])
 
 -- and with one less
-without_number-rise : (n : ℕ) (all : List ℕ) → Rise all → Rise (without_number n all)
+without_number-rise : (n : ℕ) (all : List ℕ) → AreRising all → AreRising (without_number n all)
 without_number-rise n [] rise = tt
 without_number-rise n (first ∷ rest) rise =
-    without_number_cases Rise n first rest (λ same. rise.1) (λ other. (λ k among. rise.0 k (without_number-only n k rest among), without_number-rise n rest rise.1))
+    without_number_cases AreRising n first rest (λ same. rise.1) (λ other. (λ k among. rise.0 k (without_number-only n k rest among), without_number-rise n rest rise.1))
 
 -- ---- the losers of a history
 
 -- they stand in order of their ids, each once
-pub losers_rise : (history : History) → Rise (losers_of history)
+pub losers_rise : (history : History) → AreRising (losers_of history)
 losers_rise [] = tt
 losers_rise (changes c ∷ before) = with_number-rise c.txn (losers_of before) (losers_rise before)
 losers_rise (undoes u ∷ before) = with_number-rise u.txn (losers_of before) (losers_rise before)
@@ -190,3 +181,13 @@ losers_are_unfinished (enters e ∷ before) ordered txn = unfinished_more e.txn 
 losers_are_unfinished (commits f ∷ before) ordered txn = unfinished_less f.txn txn before (losers_are_unfinished before ordered.0 txn)
 losers_are_unfinished (ends f ∷ before) ordered txn = unfinished_less f.txn txn before (losers_are_unfinished before ordered.0 txn)
 losers_are_unfinished (marks m ∷ before) ordered txn = losers_are_unfinished before ordered.0 txn
+
+-- so they are the unfinished transactions that have a record
+pub losers_are_exact : LosersAreUnfinished
+losers_are_exact = record {
+  rising = losers_rise;
+  exact = λ history ordered txn. (
+    λ loses. (losers_have_records history txn loses, losers_are_unfinished history ordered txn loses),
+    λ has. elim (losers_are_all history txn has.0) [ inl finished ↦ absurd (has.1 finished) | inr loses ↦ loses ],
+  );
+}

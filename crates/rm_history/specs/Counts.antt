@@ -21,3 +21,13 @@ repeat_count (enters e ∷ before) = repeat_count before + 1
 repeat_count (commits f ∷ before) = repeat_count before
 repeat_count (ends f ∷ before) = repeat_count before
 repeat_count (marks m ∷ before) = repeat_count before
+
+-- how many compensations there are
+abbrev pub undo_count : History → ℕ
+undo_count [] = 0
+undo_count (changes c ∷ before) = undo_count before
+undo_count (undoes u ∷ before) = undo_count before + 1
+undo_count (enters e ∷ before) = undo_count before
+undo_count (commits f ∷ before) = undo_count before
+undo_count (ends f ∷ before) = undo_count before
+undo_count (marks m ∷ before) = undo_count before

@@ -1,5 +1,5 @@
 -- What holds of all logs, of all histories that are in order, and of all that are legal.
-use Rattle.std.specs.Prelude.{◌≡◌, ℕ, List, [], ◌∷◌, ◌++◌, ◌⊎◌}
+use Rattle.std.specs.Prelude.{◌≡◌, ℕ, List, [], ◌∷◌, ◌++◌, ◌⊎◌, ◌↔◌}
 use Rattle.rm_types.specs.declared.formats.Format.{Format}
 use Rattle.rm_types.specs.declared.numbers.Rid.{Rid}
 use Rattle.rm_outside.specs.Images.{Bytes}
@@ -8,7 +8,9 @@ use Rattle.rm_history.specs.Logs.{Batch, HasLog}
 use Rattle.rm_model.specs.Pages.{row_at}
 use Rattle.rm_history.specs.Acts.{Change, History, act_of}
 use Rattle.rm_history.specs.Contents.{slot_at, slot_of, page_of}
-use Rattle.rm_history.specs.Pending.{pending_of, last_of}
+use Rattle.rm_history.specs.Pending.{pending_of, of_txn, all_pending, last_of, AreFalling}
+use Rattle.rm_history.specs.Transactions.{IsFinished, HasRecord}
+use Rattle.rm_history.specs.Losers.{losers_of, IsAmong, AreRising}
 use Rattle.rm_history.specs.Rows.{applied, rows_of_log}
 use Rattle.rm_history.specs.Rules.{IsInOrder}
 use Rattle.rm_history.specs.Legal.{IsLegal}
@@ -52,6 +54,20 @@ PendingIsChained = (history : History) → IsInOrder history → (txn : ℕ) →
 abbrev pub PendingIsOfOne : Type 0
 PendingIsOfOne = (history : History) → IsInOrder history → (rid : Rid) (txn other : ℕ)
     → IsChanged (pending_of history txn) rid → IsChanged (pending_of history other) rid → txn ≡ other
+
+-- All that is pending is what is pending of each transaction, with LSNs that fall.
+pub record AllPendingIsOfEach : Type 0 where
+  pub each : (history : History) (txn : ℕ) → of_txn txn (all_pending history) ≡ pending_of history txn
+  pub falling : (history : History) → IsInOrder history → AreFalling (all_pending history)
+
+-- a finished transaction has nothing pending
+abbrev pub NoneOfFinished : Type 0
+NoneOfFinished = (history : History) → IsInOrder history → (txn : ℕ) → IsFinished history txn → pending_of history txn ≡ []
+
+-- The losers are the unfinished transactions with a record, with ids that rise.
+pub record LosersAreUnfinished : Type 0 where
+  pub rising : (history : History) → AreRising (losers_of history)
+  pub exact : (history : History) → IsInOrder history → (txn : ℕ) → IsAmong (losers_of history) txn ↔ (HasRecord history txn × (IsFinished history txn → ⊥))
 
 -- what a page holds at a row id is what its pending changes left on the committed row, or that row
 abbrev pub PagesHoldWhatIsPending : Type 0

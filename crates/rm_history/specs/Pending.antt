@@ -1,5 +1,5 @@
 -- What of a history may still be undone.
-use Rattle.std.specs.Prelude.{ℕ, ◌==◌, if◌then◌else◌, List, [], ◌∷◌}
+use Rattle.std.specs.Prelude.{ℕ, ◌<◌, ◌==◌, if◌then◌else◌, List, [], ◌∷◌}
 use Rattle.rm_history.specs.Acts.{Change, History, changes, undoes, enters, commits, ends, marks}
 
 -- all but the newest
@@ -26,6 +26,11 @@ abbrev pub without : List Change → ℕ → List Change
 without [] txn = []
 without (newest ∷ before) txn = if newest.txn == txn then without before txn else newest ∷ without before txn
 
+-- the changes of a transaction among these
+abbrev pub of_txn : ℕ → List Change → List Change
+of_txn txn [] = []
+of_txn txn (newest ∷ before) = if newest.txn == txn then newest ∷ of_txn txn before else of_txn txn before
+
 -- the pending changes of all transactions, the newest first
 abbrev pub all_pending : History → List Change
 all_pending [] = []
@@ -40,3 +45,8 @@ all_pending (marks m ∷ before) = all_pending before
 abbrev pub last_of : List Change → ℕ
 last_of [] = 0
 last_of (newest ∷ before) = newest.lsn
+
+-- the LSNs fall
+abbrev pub AreFalling : List Change → Type 0
+AreFalling [] = Unit {0}
+AreFalling (newest ∷ before) = (last_of before < newest.lsn) × AreFalling before

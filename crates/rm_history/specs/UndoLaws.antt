@@ -1,5 +1,5 @@
 -- What holds of each undo, of each rollback and of each restart.
-use Rattle.std.specs.Prelude.{◌≡◌, ℕ, ◌+◌, ◌<◌, List, [], ◌∷◌}
+use Rattle.std.specs.Prelude.{◌≡◌, ℕ, ◌+◌, ◌<◌, List, [], ◌∷◌, length}
 use Rattle.rm_types.specs.declared.formats.Format.{Format}
 use Rattle.rm_types.specs.declared.numbers.Rid.{Rid}
 use Rattle.rm_model.specs.Pages.{row_at}
@@ -8,10 +8,11 @@ use Rattle.rm_history.specs.Contents.{page_of, format_after, category_of, entry_
 use Rattle.rm_history.specs.Pending.{pending_of, all_pending}
 use Rattle.rm_history.specs.Transactions.{IsFinished, HasRecord}
 use Rattle.rm_history.specs.Rows.{rows_of_log, settled_of}
+use Rattle.rm_history.specs.Counts.{undo_count}
 use Rattle.rm_history.specs.Rules.{IsInOrder}
 use Rattle.rm_history.specs.Legal.{IsLegal}
 use Rattle.rm_history.specs.Losers.{losers_of}
-use Rattle.rm_history.specs.Undoing.{category_after, entry_for, undo_for, Undone, Ended, RolledBack, Restarted}
+use Rattle.rm_history.specs.Undoing.{category_after, entry_for, undo_for, Undone, Ended, RolledBack, RolledBackTo, Restarted}
 use Rattle.rm_history.specs.UndoBytes.{inventory_record, compensate_record, end_record, bytes_of, entry_bytes, undo_bytes}
 
 -- Undoing a transaction's last pending change is in order: its page always has the room. Of the inventory this says nothing.
@@ -37,6 +38,11 @@ abbrev pub RollbacksAreLegal : Type 0
 RollbacksAreLegal = (start : Format) (before new : History) (txn : ℕ) → IsLegal start before → (IsFinished before txn → ⊥) → RolledBack start before txn new
     → IsLegal start new × IsFinished new txn × (rows_of_log new ≡ rows_of_log before)
 
+-- a partial rollback gives a legal history too, with the same rows, in which the rest is pending
+abbrev pub PartialRollbacksAreLegal : Type 0
+PartialRollbacksAreLegal = (start : Format) (before new : History) (txn : ℕ) (rest : List Change) → IsLegal start before
+    → (IsFinished before txn → ⊥) → RolledBackTo start before txn rest new → IsUndone start before txn rest new
+
 -- what restart's undo leaves: nothing is pending, each page has its slots, with the committed rows and nothing else, and each entry is right
 pub record IsRestarted (start : Format) (before new : History) : Type 0 where
   pub legal : IsLegal start new
@@ -50,6 +56,10 @@ pub record IsRestarted (start : Format) (before new : History) : Type 0 where
 -- so it is with each legal history
 abbrev pub RestartsAreLegal : Type 0
 RestartsAreLegal = (start : Format) (before new : History) → IsLegal start before → Restarted start before new → IsRestarted start before new
+
+-- it appends a compensation for each pending change
+abbrev pub RestartsCompensateAll : Type 0
+RestartsCompensateAll = (start : Format) (before new : History) → Restarted start before new → undo_count new ≡ undo_count before + length (all_pending before)
 
 -- the undo of a history can be made
 abbrev pub RestartsExist : Type 0

@@ -1,5 +1,5 @@
 -- How what is pending is undone, in a log that begins in a given format: one change, a transaction, and all that a crash left unfinished.
-use Rattle.std.specs.Prelude.{◌≡◌, ℕ, ◌<◌, List, [], ◌∷◌, ◌⊎◌}
+use Rattle.std.specs.Prelude.{◌≡◌, ℕ, ◌<◌, List, [], ◌∷◌, ◌++◌, ◌⊎◌}
 use Rattle.rm_types.specs.declared.formats.Format.{Format}
 use Rattle.rm_history.specs.Acts.{Change, Undo, Entry, History, undoes, enters, ends, newest_lsn}
 use Rattle.rm_history.specs.Contents.{entry_of}
@@ -54,6 +54,12 @@ pub record RolledBack (start : Format) (before : History) (txn : ℕ) (new : His
   pub undone : History
   pub undoes_all : AllUndone start before (pending_of before txn) undone
   pub ends_it : Ended undone txn new
+
+-- A partial rollback: the newest of the transaction's pending changes are undone, and the rest stay pending.
+pub record RolledBackTo (start : Format) (before : History) (txn : ℕ) (rest : List Change) (new : History) : Type 0 where
+  pub newest : List Change
+  pub cut : pending_of before txn ≡ newest ++ rest
+  pub undoes_newest : AllUndone start before newest new
 
 -- Restart's undo: all that is pending is undone, the newest first, and then each loser ends.
 pub record Restarted (start : Format) (before new : History) : Type 0 where

@@ -1,8 +1,8 @@
 //! What holds of all histories: functions without code, whose contracts are laws.
 
-ghost use Rattle.rm_history.specs.Laws.{LogsAreOne, ActsDetermineRecords, SettledWhenNothingIsPending, EmptyIsLegal, PrefixesAreInOrder, LegalPrefixes, LegalIsInOrder, PendingIsChained, PendingIsOfOne, PagesHoldWhatIsPending, PagesHoldWhatIsCommitted};
+ghost use Rattle.rm_history.specs.Laws.{LogsAreOne, ActsDetermineRecords, SettledWhenNothingIsPending, EmptyIsLegal, PrefixesAreInOrder, LegalPrefixes, LegalIsInOrder, PendingIsChained, PendingIsOfOne, PagesHoldWhatIsPending, PagesHoldWhatIsCommitted, AllPendingIsOfEach, NoneOfFinished, LosersAreUnfinished};
 ghost use Rattle.rm_history.specs.RoomLaws.{NeedsGoOn, FittingIsRoom};
-ghost use Rattle.rm_history.specs.UndoLaws.{UndoesAreInOrder, NoUndoLacksRoom, RollbacksAreLegal, RestartsAreLegal, RestartsExist, UndoBytesGoDown};
+ghost use Rattle.rm_history.specs.UndoLaws.{UndoesAreInOrder, NoUndoLacksRoom, RollbacksAreLegal, RestartsAreLegal, RestartsExist, PartialRollbacksAreLegal, RestartsCompensateAll, UndoBytesGoDown};
 ghost use Rattle.rm_history.specs.LiteralLaws.{NetIsPending, RowsAreOfWinners, NeedIsTheMost};
 
 /// An area has one log.
@@ -50,6 +50,21 @@ pub fn a_page_holds_what_is_committed()
     ensures { PagesHoldWhatIsCommitted }
 {}
 
+/// All that is pending is what is pending of each transaction, with LSNs that fall.
+pub fn all_pending_is_of_each_transaction()
+    ensures { AllPendingIsOfEach }
+{}
+
+/// A finished transaction has nothing pending.
+pub fn a_finished_transaction_has_nothing_pending()
+    ensures { NoneOfFinished }
+{}
+
+/// The losers are the unfinished transactions with a record, with ids that rise.
+pub fn losers_are_unfinished()
+    ensures { LosersAreUnfinished }
+{}
+
 /// The undo of a transaction's last pending change is in order: its page has the room. Of the inventory this says nothing.
 pub fn an_undo_is_in_order()
     ensures { UndoesAreInOrder }
@@ -65,9 +80,19 @@ pub fn a_rollback_is_legal()
     ensures { RollbacksAreLegal }
 {}
 
+/// A partial rollback is legal, and leaves the committed rows and the rest of what is pending.
+pub fn a_partial_rollback_is_legal()
+    ensures { PartialRollbacksAreLegal }
+{}
+
 /// Restart's undo is legal; after it nothing is pending, each page holds the committed rows, and each entry is right.
 pub fn restart_is_legal()
     ensures { RestartsAreLegal }
+{}
+
+/// Restart's undo appends a compensation for each pending change.
+pub fn restart_compensates_each_pending_change()
+    ensures { RestartsCompensateAll }
 {}
 
 /// Restart's undo of a history can be made.
