@@ -6,3 +6,5 @@ pub mod CheckpointLaws
 pub mod SoundLaws
 pub mod FreshLaws
 mod Examples
+mod ExampleLog
+mod WholeExamples
