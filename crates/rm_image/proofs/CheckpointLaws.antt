@@ -91,6 +91,13 @@ least_of-less : (places : List Place) (less more : ℕ) → less ≤ more → le
 least_of-less [] less more le = le
 least_of-less (first ∷ places) less more le = omega (arith, least_of-less places less more le)
 
+-- a block has one redo offset
+pub redo_offset_is : (listed : Option Listing → List Place) (fields : Fields) (batches : List Batch) (named : Option Listing) (number redo : ℕ)
+    → IsInOrder (acts_of_batches batches) → HasCheckpoint fields batches named → IsRedoOffset listed fields batches number redo
+    → redo ≡ place_or (listed named) number fields.batch
+redo_offset_is listed fields batches named number redo ordered has is =
+    is.2 ∙ ap (λ (n : Option Listing). place_or (listed n) number fields.batch) (checkpoints_are_one fields batches is.0 named ordered is.1 has)
+
 -- so the redo point is not after the offset that one of the checkpoint's lists gives
 not_before : (listed : Option Listing → List Place) (fields : Fields) (batches : List Batch) (point number redo : ℕ) → IsInOrder (acts_of_batches batches)
     → fields.restoring ≡ false
@@ -98,8 +105,7 @@ not_before : (listed : Option Listing → List Place) (fields : Fields) (batches
     → IsRedoPoint fields batches point → IsRedoOffset listed fields batches number redo → point ≤ redo
 not_before listed fields batches point number redo ordered not_restoring least (inl restoring) is = cc
 not_before listed fields batches point number redo ordered not_restoring least (inr is_point) is =
-    let same : is_point.1.0 ≡ is.0 = checkpoints_are_one fields batches is_point.1.0 is.0 ordered is_point.1.1 is.1 in
-    omega (arith, is_point.1.2, is.2, least is_point.1.0, ap (λ (named : Option Listing). place_or (listed named) number fields.batch) same)
+    omega (arith, is_point.1.2, least is_point.1.0, redo_offset_is listed fields batches is_point.1.0 number redo ordered is_point.1.1 is)
 
 pub redo_point_is_least : RedoPointIsLeast
 redo_point_is_least = record {

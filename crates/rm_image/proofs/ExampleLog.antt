@@ -52,8 +52,11 @@ commit = commits (record { lsn = 29; txn = 1 })
 abbrev pub listing : Listing
 listing = record { lsn = 39; next = 2; losers = []; pages = place ∷ []; blocks = [] }
 
+abbrev pub committed : History
+committed = commit ∷ insert ∷ []
+
 abbrev pub history : History
-history = marks (lists listing) ∷ commit ∷ insert ∷ []
+history = marks (lists listing) ∷ committed
 
 pub acts : acts_of_batches batches ≡ history
 acts = refl
@@ -104,7 +107,7 @@ need_committed : (its : Bool) (txn page : ℕ) → need_for (on_page page (cond 
 need_committed true txn page = refl
 need_committed false txn page = need_of_insert txn page
 
-need_of_commit : (txn page : ℕ) → need_of (commit ∷ insert ∷ []) txn page ≡ 0
+need_of_commit : (txn page : ℕ) → need_of committed txn page ≡ 0
 need_of_commit txn page = need_committed (eqb 1 txn) txn page
 
 -- so the page with the row has room, and any other is empty
@@ -119,7 +122,7 @@ few_used (suc page) = rw (eqb-zero-suc page) (lit≤ tt)
 insert_fits : Fits (insert ∷ [])
 insert_fits page n = omega (arith, few_used page, no_sum _ (λ txn. need_of_insert txn page) n)
 
-commit_fits : Fits (commit ∷ insert ∷ [])
+commit_fits : Fits committed
 commit_fits page n = omega (arith, few_used page, no_sum _ (λ txn. need_of_commit txn page) n)
 
 -- each category is 0, as the entries are
@@ -128,12 +131,12 @@ no_category zero = refl
 no_category (suc page) = rw (eqb-zero-suc page) refl
 
 -- the one transaction that has a record has committed
-next_is : (txn : ℕ) → HasRecord (commit ∷ insert ∷ []) txn → txn < 2
+next_is : (txn : ℕ) → HasRecord committed txn → txn < 2
 next_is txn (inl is) = omega (arith, is)
 next_is txn (inr (inl is)) = omega (arith, is)
 next_is txn (inr (inr none)) = absurd none
 
-finished : (txn : ℕ) → HasRecord (commit ∷ insert ∷ []) txn → IsFinished (commit ∷ insert ∷ []) txn
+finished : (txn : ℕ) → HasRecord committed txn → IsFinished committed txn
 finished txn (inl is) = inl is
 finished txn (inr (inl is)) = inl is
 finished txn (inr (inr none)) = absurd none

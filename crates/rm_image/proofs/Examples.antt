@@ -1,26 +1,17 @@
 -- The definitions of redo, checkpoints and copies, on examples.
 use Rattle.std.proofs.Common.{◌≡◌, ℕ, List, [], ◌∷◌, inl, inr, refl, arith, lit<, lit≤}
-use Rattle.rm_types.specs.declared.slots.Slot.TheVariants.{Vacant, Row}
-use Rattle.rm_history.specs.Acts.{Change, Finish, History, changes, enters, commits}
+use Rattle.rm_types.specs.declared.slots.Slot.TheVariants.{Row}
+use Rattle.rm_history.specs.Acts.{History, enters}
 use Rattle.rm_image.specs.Standing.{StandsFor}
 use Rattle.rm_image.specs.Checkpoints.{place_or, least_of}
 use Rattle.rm_image.specs.Redo.{PageBlock, EntriesBlock, page_redone, entries_redone}
 use Rattle.rm_image.specs.Copies.{copied_page, copied_block}
+use Rattle.rm_image.proofs.ExampleLog.{row, committed}
 
-abbrev row : List ℕ
-row = 97 ∷ []
-
--- one insert into page 0, at LSN 5, and its commit at 29
-abbrev insert : Change
-insert = record { lsn = 5; txn = 1; under = 0; rid = record { page = 0; slot = 0 }; need = 0; before = Vacant; after = Row row }
-
-abbrev commit : Finish
-commit = record { lsn = 29; txn = 1 }
-
+-- the insert at LSN 5 and its commit at 29 stand in the batch with the gate 0
 abbrev history : History
-history = commits commit ∷ changes insert ∷ []
+history = committed
 
--- both stand in the batch with the gate 0
 abbrev gates : ℕ → ℕ
 gates lsn = 0
 
@@ -43,7 +34,7 @@ other_page = (λ le. absurd (omega (arith, le)), λ lt. (λ on. absurd on, (λ l
 not_of_commit : StandsFor gates history 0 29 (Row row ∷ []) 0 → ⊥
 not_of_commit stands = omega (arith, (stands.0 (lit≤ tt)).0)
 
--- redo gives a block of zeros the insert, and leaves a block that has it; from behind the batch on it repeats nothing
+-- redo gives a block of zeros the insert, and leaves a block that has it; from the end of the batch on it repeats nothing
 abbrev zeros : PageBlock
 zeros = record { version = 0; slots = [] }
 

@@ -5,6 +5,7 @@ pub mod Gates
 pub mod CheckpointLaws
 pub mod SoundLaws
 pub mod FreshLaws
-mod Examples
+pub mod RedoneLaws
 mod ExampleLog
+mod Examples
 mod WholeExamples

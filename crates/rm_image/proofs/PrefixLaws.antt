@@ -19,7 +19,7 @@ cond-le false a b bound first second = second
 
 module _ (page : ℕ) where
   -- a record on the page gives it its LSN as version, and any other leaves version and slots
-  version_on : (act : Act) (before : History) → IsOnPage page act → version_of (act ∷ before) page ≡ lsn_of act
+  pub version_on : (act : Act) (before : History) → IsOnPage page act → version_of (act ∷ before) page ≡ lsn_of act
   version_on (changes c) before on = rw (eq-eqb c.rid.page page on) refl
   version_on (undoes u) before on = rw (eq-eqb u.rid.page page on) refl
   version_on other before on = absurd on
@@ -64,7 +64,7 @@ block_of-page block index inside = omega arith
 
 module _ (block : ℕ) where
   -- a record in the block gives it its LSN as version, and any other leaves version and entries
-  block_version_on : (act : Act) (before : History) → IsInBlock block act → block_version_of (act ∷ before) block ≡ lsn_of act
+  pub block_version_on : (act : Act) (before : History) → IsInBlock block act → block_version_of (act ∷ before) block ≡ lsn_of act
   block_version_on (enters e) before on = rw (eq-eqb (e.page / BLOCK_PAGES) block on) refl
   block_version_on other before on = absurd on
 

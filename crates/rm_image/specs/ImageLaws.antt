@@ -1,21 +1,28 @@
 -- What holds of all checkpoints and of all images.
-use Rattle.std.specs.Prelude.{◌≡◌, ◌≢◌, ℕ, ◌≤◌, List, [], true, false, Option, ◌↔◌}
+use Rattle.std.specs.Prelude.{◌≡◌, ◌≢◌, ℕ, ◌≤◌, ◌<◌, List, [], true, false, Option, ◌↔◌}
 use Rattle.std.specs.List.{AllByRecursion}
-use Rattle.rm_types.specs.declared.areas.Area.TheVariants.{Master, Log}
+use Rattle.rm_types.specs.declared.areas.Area.TheVariants.{Master, Log, Data, Space, Copy}
 use Rattle.rm_types.specs.declared.formats.Format.{Format}
 use Rattle.rm_types.specs.declared.formats.Format.TheVariants.{One}
-use Rattle.rm_outside.specs.Images.{Image}
+use Rattle.rm_types.specs.declared.slots.Slot.{Slot}
+use Rattle.rm_types.specs.Formats.{blocks_of}
+use Rattle.rm_outside.specs.Images.{Bytes, Image}
 use Rattle.rm_master.specs.declared.fields.Fields.{Fields}
 use Rattle.rm_master.specs.Fields.{IsOfFormat, fresh_fields}
 use Rattle.rm_master.specs.Fresh.{IsFresh}
 use Rattle.rm_master.specs.Slots.{HasFields}
 use Rattle.rm_history.specs.Logs.{Batch, HasLog}
 use Rattle.rm_history.specs.Acts.{Act, Listing, History, changes, undoes, enters, commits, ends, marks}
-use Rattle.rm_history.specs.Batched.{acts_of_batches}
+use Rattle.rm_history.specs.Contents.{page_of, version_of}
+use Rattle.rm_history.specs.Batched.{acts_of_batches, batch_of}
 use Rattle.rm_history.specs.Rules.{IsInOrder}
-use Rattle.rm_image.specs.Starts.{Start}
+use Rattle.rm_block.specs.Blocks.{block_at, IsDataBlock, IsInventoryBlock, space_place}
+use Rattle.rm_image.specs.Starts.{Start, format_of, size_of}
 use Rattle.rm_image.specs.Checkpoints.{HasCheckpoint, IsRedoOfPage, IsRedoOfBlock, IsRedoPoint}
-use Rattle.rm_image.specs.Whole.{IsLogSound, IsSoundBy, IsWhole}
+use Rattle.rm_image.specs.Copies.{copied_page, copied_block}
+use Rattle.rm_image.specs.Redo.{page_redone, entries_redone}
+use Rattle.rm_image.specs.Laws.{IsUp}
+use Rattle.rm_image.specs.Whole.{IsLogSound, IsSoundBy, IsSoundWith, IsWholeWith, IsWhole}
 
 -- of a log in order the master names one checkpoint, or none
 abbrev pub CheckpointsAreOne : Type 0
@@ -29,6 +36,37 @@ pub record RedoPointIsLeast : Type 0 where
   pub blocks : (fields : Fields) (batches : List Batch) (point place redo : ℕ) → IsInOrder (acts_of_batches batches) → fields.restoring ≡ false
       → IsRedoPoint fields batches point → IsRedoOfBlock fields batches place redo → point ≤ redo
   pub copied : (fields : Fields) (batches : List Batch) (point : ℕ) → fields.restoring ≡ true → IsRedoPoint fields batches point → point ≤ fields.start
+
+-- The block with this number is what the log says of the page, once the records from this offset on are repeated.
+pub record IsRedone (area : Bytes) (batches : List Batch) (number page from : ℕ) : Type 0 where
+  pub version : ℕ
+  pub slots : List Slot
+  pub block : IsDataBlock area (block_at number) version slots
+  pub redone : page_redone (batch_of batches) from page (acts_of_batches batches) (record { version = version; slots = slots })
+      ≡ record { version = version_of (acts_of_batches batches) page; slots = page_of (acts_of_batches batches) page }
+
+-- so is a block of the inventory
+pub record AreRedone (format : Format) (area : Bytes) (batches : List Batch) (number block from : ℕ) : Type 0 where
+  pub version : ℕ
+  pub entries : ℕ → ℕ
+  pub is_block : IsInventoryBlock format area (block_at number) version entries
+  pub redone : IsUp (acts_of_batches batches) block
+      (entries_redone (batch_of batches) from block (acts_of_batches batches) (record { version = version; entries = entries }))
+
+-- From the redo point on redo makes of each block what the log says: of the blocks of the file, or of the copied ones while the
+-- file is being restored.
+pub record WholeImagesAreRedone : Type 0 where
+  pub pages : (c : Image) (start : Start) (fields : Fields) (batches : List Batch) (point page : ℕ) → IsWholeWith c start fields batches
+      → fields.restoring ≡ false → IsRedoPoint fields batches point → page < size_of start batches → IsRedone (c Data) batches page page point
+  pub blocks : (c : Image) (start : Start) (fields : Fields) (batches : List Batch) (point block : ℕ) → IsWholeWith c start fields batches
+      → fields.restoring ≡ false → IsRedoPoint fields batches point → block < blocks_of (size_of start batches)
+      → AreRedone (format_of start batches) (c Space) batches (space_place (format_of start batches) block) block point
+  pub copied_pages : (c : Image) (start : Start) (fields : Fields) (batches : List Batch) (point page : ℕ) → IsSoundWith c start fields batches
+      → fields.restoring ≡ true → IsRedoPoint fields batches point → page < fields.copied
+      → IsRedone (c Copy) batches (copied_page fields.half page) page point
+  pub copied_blocks : (c : Image) (start : Start) (fields : Fields) (batches : List Batch) (point block : ℕ) → IsSoundWith c start fields batches
+      → fields.restoring ≡ true → IsRedoPoint fields batches point → block < blocks_of fields.copied
+      → AreRedone (format_of start batches) (c Copy) batches (copied_block fields.half block) block point
 
 -- the record is of a transaction
 abbrev pub IsOfTxn : Act → Type 0

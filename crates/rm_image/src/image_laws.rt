@@ -2,7 +2,7 @@
 
 ghost use Rattle.rm_types.specs.declared.formats.Format.{Format};
 ghost use Rattle.rm_history.specs.Acts.{History};
-ghost use Rattle.rm_image.specs.ImageLaws.{CheckpointsAreOne, RedoPointIsLeast, CheckpointsAreRecords, LogImagesAreSound, SoundImagesAreOne, CopiesAreOfTheFile, FreshIsSound, FreshIsWhole};
+ghost use Rattle.rm_image.specs.ImageLaws.{CheckpointsAreOne, RedoPointIsLeast, WholeImagesAreRedone, CheckpointsAreRecords, LogImagesAreSound, SoundImagesAreOne, CopiesAreOfTheFile, FreshIsSound, FreshIsWhole};
 
 /// What is asked of the history of a sound log.
 pub trait HistoryRules {
@@ -19,6 +19,12 @@ pub fn a_master_names_one_checkpoint()
 /// copy's start is not.
 pub fn no_redo_offset_is_before_the_redo_point()
     ensures { RedoPointIsLeast }
+{}
+
+/// From the redo point on redo makes of each block of a whole image what the log says; while the file is being
+/// restored, of each copied block.
+pub fn redo_completes_whole_images()
+    ensures { WholeImagesAreRedone }
 {}
 
 /// Where each record is of a transaction, the master names no checkpoint.
