@@ -60,7 +60,7 @@ none_stands {area} {at} rest shown none next is short stands =
 pub batch_is_wrong : {area : Bytes} {gate len at : ℕ} {bytes : List ℕ} {modelled : Type 0} → IsOpen modelled area gate len → (modelled → Shows area (gate + BATCH_HEADER) bytes) → length bytes ≡ len
     → StopsAt (gate + BATCH_HEADER) bytes at → modelled → IsWrongAfter area gate at
 batch_is_wrong {area} {gate} {len} {at} {bytes} opened shown long stops models =
-    let front = spelling_all stops.first in
+    let front = spelling_all stops.prefix in
     let lengths : length front + length stops.rest ≡ len = sym (length-append front stops.rest) ∙ sym (ap length stops.cut) ∙ long in
     let body : Shows area (gate + BATCH_HEADER) (front ++ stops.rest) = subst (Shows area (gate + BATCH_HEADER)) stops.cut (shown models) in
     let here : Shows area at stops.rest = subst (λ (n : ℕ). Shows area n stops.rest) (sym stops.place) (shows_back front stops.rest body) in
@@ -68,7 +68,7 @@ batch_is_wrong {area} {gate} {len} {at} {bytes} opened shown long stops models =
       begun = (opened.shown models).0;
       wrong = inr (record {
         len = len;
-        front = stops.first;
+        prefix = stops.prefix;
         range = opened.range;
         records = stops.are;
         within = omega (arith, lengths, stops.some);

@@ -9,7 +9,7 @@ use Rattle.rm_record.specs.Records.{spelling, spelling_all, IsRecord}
 use Rattle.rm_history.specs.declared.TheConstants.{BATCH_HEADER}
 use Rattle.rm_history.specs.Logs.{Batch, gate_of, body_of, IsInRange, IsBatch, AreBatches, Stands, HasWrongLength, HasWrongRecord}
 use Rattle.rm_history.specs.Acts.{acts_of}
-use Rattle.rm_history.specs.Batched.{acts_behind, acts_of_batches}
+use Rattle.rm_history.specs.Batched.{acts_after, acts_of_batches}
 
 -- no record's spelling begins the bytes
 pub record BeginsWithNone (bytes : List ℕ) : Type 0 where
@@ -25,27 +25,27 @@ pub record ReadsRecord (at : ℕ) (bytes : List ℕ) (size : ℕ) (old new : Lis
 
 -- the bytes are some records and then the rest; the records were put after the old ones, from that LSN on
 pub record ReadsSome (base : ℕ) (bytes : List ℕ) (at : ℕ) (rest : List ℕ) (old new : List Logged) : Type 0 where
-  pub first : Batch
-  pub are : AllByRecursion IsRecord first
-  pub cut : bytes ≡ spelling_all first ++ rest
-  pub place : at ≡ base + length (spelling_all first)
-  pub acts_are : acts_of new ≡ acts_behind (acts_of old) base first
+  pub prefix : Batch
+  pub are : AllByRecursion IsRecord prefix
+  pub cut : bytes ≡ spelling_all prefix ++ rest
+  pub place : at ≡ base + length (spelling_all prefix)
+  pub acts_are : acts_of new ≡ acts_after (acts_of old) base prefix
 
 -- the bytes are these records, which were put after the old ones
 pub record ReadsAll (base : ℕ) (bytes : List ℕ) (old new : List Logged) : Type 0 where
   pub batch : Batch
   pub are : AllByRecursion IsRecord batch
   pub spelled : bytes ≡ spelling_all batch
-  pub acts_are : acts_of new ≡ acts_behind (acts_of old) base batch
+  pub acts_are : acts_of new ≡ acts_after (acts_of old) base batch
 
 -- the bytes are some records and then, from that place on, bytes that begin with none
 pub record StopsAt (base : ℕ) (bytes : List ℕ) (at : ℕ) : Type 0 where
-  pub first : Batch
+  pub prefix : Batch
   pub rest : List ℕ
-  pub are : AllByRecursion IsRecord first
-  pub cut : bytes ≡ spelling_all first ++ rest
+  pub are : AllByRecursion IsRecord prefix
+  pub cut : bytes ≡ spelling_all prefix ++ rest
   pub some : 0 < length rest
-  pub place : at ≡ base + length (spelling_all first)
+  pub place : at ≡ base + length (spelling_all prefix)
   pub none : BeginsWithNone rest
 
 -- the bytes from a gate on are an open gate and a length that is out of range
@@ -72,7 +72,7 @@ pub record ReadsBatch (modelled : Type 0) (area : Bytes) (gate next : ℕ) (old 
   pub is : IsBatch gate batch
   pub shown : modelled → (area gate ≡ 1) × Shows area (gate + 1) (body_of batch)
   pub next_is : next ≡ gate + (BATCH_HEADER + length (spelling_all batch))
-  pub acts_are : acts_of new ≡ acts_behind (acts_of old) (gate + BATCH_HEADER) batch
+  pub acts_are : acts_of new ≡ acts_after (acts_of old) (gate + BATCH_HEADER) batch
 
 -- what was read at a gate: no batch, or one
 abbrev pub ReadsGate : Type 0 → Bytes → ℕ → List Logged → List Logged → Option ℕ → Type 0

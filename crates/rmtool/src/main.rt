@@ -1,25 +1,12 @@
 //! `rmtool`, the record manager's program: a command's words, a script on standard input, and what the
 //! command prints on standard output.
 //!
-//! [`run_command`] is the whole program as a function over a source and a sink, and its contract says
-//! what is printed and why. `main` only hands it the real ones.
+//! The program is [`run_command`] of rm_command, whose contract says what is printed and why. `main` only
+//! hands it the real words, volume, source and sink.
 #![tactic(auto)]
 
-mod command;
-mod commands;
-mod plain;
-mod reading;
-mod statuses;
-mod stops;
-#[cfg(test)]
-mod tests;
-mod turns;
-mod volumes;
-mod writing;
-
-pub use command::{run_command, tell};
+use rm_command::{Status, run_command, tell};
 use rm_files::{FileVolume, Input, Output};
-pub use statuses::Status;
 use std::io::ErrorKind;
 use std::process::ExitCode;
 use std::{env, io};

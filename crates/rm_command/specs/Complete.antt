@@ -1,0 +1,38 @@
+-- How a command ends where nothing fails.
+use Rattle.std.specs.Prelude.{◌≡◌, ℕ, List, [], Option, Some, None, ◌⊎◌}
+use Rattle.rm_script.specs.declared.lines.Line.{Line}
+use Rattle.rm_types.specs.declared.numbers.TxnId.{TxnId}
+use Rattle.rm_outside.specs.Images.{Image}
+use Rattle.rm_script.specs.Grammar.{IsPlain, IsTurns, IsWithinLimits}
+use Rattle.rm_history.specs.Pending.{pending_of}
+use Rattle.rm_history.specs.Batched.{acts_of_batches}
+use Rattle.rm_restart.specs.Sound.{IsPlainImage}
+use Rattle.rm_command.specs.declared.commands.Command.{Command}
+use Rattle.rm_command.specs.declared.commands.Command.TheVariants as command
+use Rattle.rm_command.specs.declared.statuses.Status.{Status}
+use Rattle.rm_command.specs.declared.statuses.Status.TheVariants as status
+use Rattle.rm_command.specs.Volumes.{IsMade}
+
+-- the command was done, or memory ran out
+abbrev pub IsDone : Status → Type 0
+IsDone answer = (answer ≡ status.Done) ⊎ (answer ≡ status.NoMemory)
+
+-- or the log has no more room, or the ids are spent
+abbrev pub IsDoneOrRefused : Status → Type 0
+IsDoneOrRefused answer = IsDone answer ⊎ (((end : ℕ) × (answer ≡ status.LogFull end)) ⊎ ((last : TxnId) × (answer ≡ status.TxnsSpent last)))
+
+-- the volume is sound, and each transaction that its log has inserts of is committed
+pub record IsSettled (content : Image) : Type 0 where
+  pub image : IsPlainImage content
+  pub none : (id : ℕ) → pending_of (acts_of_batches image.batches) id ≡ []
+
+-- With a right script, and a volume that is settled, or not made for `create`, a command is done, but for want of
+-- memory; `turns` also but for want of log room or of ids.
+abbrev pub EndsRight : Option Command → Option (List ℕ) → Type 0 → Image → Status → Type 0
+EndsRight None source told content answer = answer ≡ status.Usage
+EndsRight (Some command.Plain) source told content answer =
+    (bytes : List ℕ) (lines : List Line) → source ≡ Some bytes → IsPlain lines bytes → IsWithinLimits bytes → IsDone answer
+EndsRight (Some (command.Create pages)) source told content answer = told → (IsMade content → ⊥) → IsDone answer
+EndsRight (Some command.Turns) source told content answer =
+    (bytes : List ℕ) (lines : List Line) → source ≡ Some bytes → IsTurns lines bytes → IsWithinLimits bytes → told → IsSettled content → IsDoneOrRefused answer
+EndsRight (Some command.Restart) source told content answer = told → IsSettled content → IsDone answer
