@@ -9,7 +9,7 @@ use Rattle.rm_history.specs.Legal.{IsEntered, EntriesFollow}
 use Rattle.rm_audit.specs.declared.verdicts.Illegal.{Illegal}
 use Rattle.rm_audit.specs.declared.verdicts.Illegal.TheVariants as why
 use Rattle.rm_audit.specs.Verdicts.{coming_of, entering_of, conditions_of, IsFirstBroken}
-use Rattle.rm_audit.proofs.Breaking.{undone_met, rid_met, next_met, first_append, first_behind, may_breaks_none, entered_breaks_none}
+use Rattle.rm_audit.proofs.Breaking.{undone_met, rid_met, next_met, first_append, first_after, may_breaks_none, entered_breaks_none}
 
 -- ---- a compensation
 
@@ -38,26 +38,26 @@ pub coming_first : (format : Format) (act : Act) (before : History) (broken : Il
 coming_first format act before broken above first =
     inr (λ no. no above, first_append format (coming_of act) (why.NoRoom ∷ entering_of act ++ why.EntryBehind ∷ []) before act broken first)
 
--- what is broken first of the conditions behind those, where the record may come
-behind_first : (format : Format) (act : Act) (before : History) (broken : Illegal) → newest_lsn before < lsn_of act → MayCome before act
+-- what is broken first of the conditions after those, where the record may come
+after_first : (format : Format) (act : Act) (before : History) (broken : Illegal) → newest_lsn before < lsn_of act → MayCome before act
     → IsFirstBroken format (why.NoRoom ∷ entering_of act ++ why.EntryBehind ∷ []) before act broken → IsFirstBroken format (conditions_of act) before act broken
-behind_first format act before broken above may first =
-    inr (λ no. no above, first_behind format (coming_of act) (why.NoRoom ∷ entering_of act ++ why.EntryBehind ∷ []) before act broken (may_breaks_none format act before may) first)
+after_first format act before broken above may first =
+    inr (λ no. no above, first_after format (coming_of act) (why.NoRoom ∷ entering_of act ++ why.EntryBehind ∷ []) before act broken (may_breaks_none format act before may) first)
 
 -- the room, where the record may come
 pub room_first : (format : Format) (act : Act) (before : History) → newest_lsn before < lsn_of act → MayCome before act → (Fits (act ∷ before) → ⊥)
     → IsFirstBroken format (conditions_of act) before act why.NoRoom
-room_first format act before above may none = behind_first format act before why.NoRoom above may (inl (refl, none))
+room_first format act before above may none = after_first format act before why.NoRoom above may (inl (refl, none))
 
 -- what is broken first of what it asks of the inventory, where there is room
 pub entering_first : (format : Format) (act : Act) (before : History) (broken : Illegal) → newest_lsn before < lsn_of act → MayCome before act → Fits (act ∷ before)
     → IsFirstBroken format (entering_of act) before act broken → IsFirstBroken format (conditions_of act) before act broken
 entering_first format act before broken above may fits first =
-    behind_first format act before broken above may (inr (λ no. no fits, first_append format (entering_of act) (why.EntryBehind ∷ []) before act broken first))
+    after_first format act before broken above may (inr (λ no. no fits, first_append format (entering_of act) (why.EntryBehind ∷ []) before act broken first))
 
--- the inventory behind it, where it has what it asks
+-- the inventory after it, where it has what it asks
 pub entry_behind_first : (format : Format) (act : Act) (before : History) → newest_lsn before < lsn_of act → MayCome before act → Fits (act ∷ before) → IsEntered format before act
     → (EntriesFollow format (act ∷ before) → ⊥) → IsFirstBroken format (conditions_of act) before act why.EntryBehind
 entry_behind_first format act before above may fits entered not =
-    behind_first format act before why.EntryBehind above may
-    (inr (λ no. no fits, first_behind format (entering_of act) (why.EntryBehind ∷ []) before act why.EntryBehind (entered_breaks_none format act before entered) (inl (refl, not))))
+    after_first format act before why.EntryBehind above may
+    (inr (λ no. no fits, first_after format (entering_of act) (why.EntryBehind ∷ []) before act why.EntryBehind (entered_breaks_none format act before entered) (inl (refl, not))))

@@ -110,7 +110,7 @@ fn judge(
     log: &[Logged],
     last: &Logged,
 ) -> Result<Option<Illegal>, NoMemory>
-    requires behind { acts_of log.now ≡ act_of last.now ∷ acts_of before.now }
+    requires after { acts_of log.now ≡ act_of last.now ∷ acts_of before.now }
     requires legal { IsLegal format (acts_of before.now) }
     ensures { IfOk result (IsFound format (IsLegal format (act_of last.now ∷ acts_of before.now)) (conditions_of (act_of last.now)) (acts_of before.now) (act_of last.now)) }
 {

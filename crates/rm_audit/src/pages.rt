@@ -31,7 +31,7 @@ fn page_step(slots: &mut Vec<Slot>, logged: &Logged, page: u32) -> Result<(), No
 }
 
 /// The slots of a page: each record that names a slot of it sets that slot.
-#[tactic(auto, using(crate::proofs::Fronts::acts_more))]
+#[tactic(auto, using(crate::proofs::Prefixes::acts_more))]
 pub fn page(alloc: Global, log: &[Logged], number: u32) -> Result<Vec<Slot>, NoMemory>
     ensures { IfOk result (λ slots. slots.items ≡ page_of (acts_of log.now) number) }
 {
@@ -57,7 +57,7 @@ fn version_step(version: Lsn, logged: &Logged, page: u32) -> Lsn
 }
 
 /// The version of a page: the LSN of the last record that set a slot of it, 0 for none.
-#[tactic(auto, using(crate::proofs::Fronts::acts_more))]
+#[tactic(auto, using(crate::proofs::Prefixes::acts_more))]
 pub fn version(log: &[Logged], page: u32) -> Lsn
     ensures { result.0 ≡ version_of (acts_of log.now) page }
 {
@@ -79,7 +79,7 @@ fn entry_step(entry: u8, logged: &Logged, number: u32) -> u8
 }
 
 /// The category that the inventory has for a page, 0 before the first.
-#[tactic(auto, using(crate::proofs::Fronts::acts_more))]
+#[tactic(auto, using(crate::proofs::Prefixes::acts_more))]
 pub fn entry(log: &[Logged], page: u32) -> u8
     ensures { result ≡ entry_of (acts_of log.now) page }
 {

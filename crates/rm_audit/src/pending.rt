@@ -4,7 +4,8 @@ ghost use Rattle.std.specs.Prelude.{◌≡◌, List, [], ◌∷◌, ◌++◌, le
 ghost use Rattle.rm_history.specs.Acts.{Change as Changes, History, act_of, acts_of};
 ghost use Rattle.rm_history.specs.Pending.{without_newest, without, all_pending as all_pending_of, pending_of};
 ghost use Rattle.rm_history.specs.Rules.{IsLast};
-ghost use Rattle.rm_audit.specs.Parts.{of_txn, IsNewestOf};
+ghost use Rattle.rm_history.specs.Pending.{of_txn};
+ghost use Rattle.rm_audit.specs.Parts.{IsNewestOf};
 
 use crate::changes::{Change, change_of};
 use rm_record::{LogRecord, Logged};
@@ -74,7 +75,7 @@ pub(crate) fn pending_step(pending: &mut Vec<Change>, logged: &Logged) -> Result
 
 /// The pending changes of all transactions, the oldest first: those that are not undone, while their transaction is
 /// not finished.
-#[tactic(auto, using(crate::proofs::Fronts::acts_more))]
+#[tactic(auto, using(crate::proofs::Prefixes::acts_more))]
 pub fn all_pending(alloc: Global, log: &[Logged]) -> Result<Vec<Change>, NoMemory>
     ensures { IfOk result (λ pending. reverse pending.items ≡ all_pending_of (acts_of log.now)) }
 {
@@ -86,7 +87,7 @@ pub fn all_pending(alloc: Global, log: &[Logged]) -> Result<Vec<Change>, NoMemor
 }
 
 /// A transaction's pending changes, the oldest first.
-#[tactic(auto, using(crate::proofs::Pendings::pending_is))]
+#[tactic(auto, using(rm_history::proofs::AllPending::pending_of_all))]
 pub fn pending_changes(alloc: Global, log: &[Logged], txn: TxnId) -> Result<Vec<Change>, NoMemory>
     ensures { IfOk result (λ pending. reverse pending.items ≡ pending_of (acts_of log.now) txn.0) }
 {

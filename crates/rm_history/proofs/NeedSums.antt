@@ -13,6 +13,11 @@ use Rattle.rm_history.proofs.PendingSteps.{pending-change, pending-change_other,
 
 -- ---- sums
 
+-- nothing adds up to nothing
+pub sum_below-zero : (n : ℕ) → sum_below (λ k. 0) n ≡ 0
+sum_below-zero zero = refl
+sum_below-zero (suc n) = omega (arith, sum_below-zero n)
+
 -- two functions that agree below a number have one sum there
 pub sum_below-same : (f g : ℕ → ℕ) (n : ℕ) → ((k : ℕ) → k < n → g k ≡ f k) → sum_below g n ≡ sum_below f n
 sum_below-same f g zero same = refl

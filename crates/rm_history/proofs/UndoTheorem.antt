@@ -14,18 +14,13 @@ use Rattle.rm_history.specs.Rules.{MayUndo, MayEnter, Follows, IsInOrder}
 use Rattle.rm_history.specs.Legal.{EntriesFollow, IsLegal}
 use Rattle.rm_history.specs.Undoing.{category_after, entry_for, undo_for, Settles, Undone}
 use Rattle.rm_history.specs.UndoLaws.{IsUndone, UndoesAreInOrder, NoUndoLacksRoom}
-use Rattle.rm_history.proofs.NeedSums.{room_kept, used-inside, pending_of-undo, pending_on-undo, need_of-undo, need_of-undo_other, fits_as_before}
+use Rattle.rm_history.proofs.NeedSums.{sum_below-zero, room_kept, used-inside, pending_of-undo, pending_on-undo, need_of-undo, need_of-undo_other, fits_as_before}
 use Rattle.rm_history.proofs.Following.{entries_follow_undo, entries_follow_entry}
 use Rattle.rm_history.proofs.Prefixes.{legal_is_in_order}
 use Rattle.rm_history.proofs.PendingSteps.{pending-undo_other}
 use Rattle.rm_history.proofs.Chains.{last_is_of, last_is_inside, last_is_held}
 
 -- ---- what is known of a legal history
-
--- nothing adds up to nothing
-sum_below-zero : (n : ℕ) → sum_below (λ k. 0) n ≡ 0
-sum_below-zero zero = refl
-sum_below-zero (suc n) = omega (arith, sum_below-zero n)
 
 -- each page of a history in order fits
 pub fits_in_order : (history : History) → IsInOrder history → Fits history

@@ -1,6 +1,6 @@
 use Rattle.std.proofs.Common.{take, rules, arith}
 use Rattle.rm_history.specs.Acts.{acts_of}
-use Rattle.rm_audit.proofs.Fronts.{log_has_record}
+use Rattle.rm_audit.proofs.Prefixes.{log_has_record}
 use Rattle.rm_audit.proofs.listings.not_below.Goals as goal
 
 pub returns-then-txn-next : goal.returns-then-txn-next

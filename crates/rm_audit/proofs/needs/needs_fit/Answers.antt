@@ -5,7 +5,8 @@ use Rattle.rm_history.specs.Pending.{without}
 use Rattle.rm_history.specs.Needs.{sum_below}
 use Rattle.rm_audit.specs.Parts.{need_in, IsLed}
 use Rattle.rm_audit.proofs.Pendings.{length-without_led}
-use Rattle.rm_audit.proofs.Sums.{sum_below-without, sum_below-none, all_within, not_within}
+use Rattle.rm_history.proofs.NeedSums.{sum_below-zero}
+use Rattle.rm_audit.proofs.Sums.{sum_below-without, all_within, not_within}
 use Rattle.rm_audit.proofs.needs.needs_fit.Goals as goal
 
 -- the room goes down by what a transaction needs, as the sum of the others' needs does
@@ -23,7 +24,7 @@ too_much first now page txn room need start n below is above so_far =
 -- no needs are left
 none_left : (first now : List Change) (page room start n : ℕ) → now ≡ [] → sum_below (need_in first page) n + room ≡ sum_below (need_in now page) n + start → sum_below (need_in first page) n ≤ start
 none_left first now page room start n none so_far =
-    omega (arith, so_far, ap (λ (l : List Change). sum_below (need_in l page) n) none ∙ sum_below-none page n)
+    omega (arith, so_far, ap (λ (l : List Change). sum_below (need_in l page) n) none ∙ sum_below-zero n)
 
 pub returns-then-need-room : goal.returns-then-need-room
 returns-then-need-room c =

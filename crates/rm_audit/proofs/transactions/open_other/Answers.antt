@@ -1,6 +1,6 @@
 use Rattle.std.proofs.Common.{rules, take}
 use Rattle.rm_history.specs.Acts.{acts_of}
-use Rattle.rm_audit.proofs.Fronts.{log_has_change}
+use Rattle.rm_audit.proofs.Prefixes.{log_has_change}
 use Rattle.rm_audit.proofs.transactions.open_other.Goals as goal
 
 pub returns-then-not-is_finished : goal.returns-then-not-is_finished

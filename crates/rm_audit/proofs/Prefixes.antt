@@ -1,28 +1,20 @@
--- The history of a log's front, as the front grows by a record.
-use Rattle.std.proofs.Common.{◌≡◌, ℕ, ◌+◌, ◌<◌, List, [], ◌∷◌, ◌++◌, length, take, drop, get_or, refl, sym, ap, subst, ◌∙◌, inr}
+-- The history of a log's prefix, as the prefix grows by a record.
+use Rattle.std.proofs.Common.{◌≡◌, ℕ, ◌+◌, ◌<◌, List, [], ◌∷◌, ◌++◌, length, take, drop, get_or, sym, ap, subst, ◌∙◌, inr}
 use Rattle.std.proofs.lemmas.List.{take_more, take-append-drop}
 use Rattle.rm_types.specs.declared.numbers.Rid.{Rid}
 use Rattle.rm_record.specs.declared.records.Logged.{Logged}
 use Rattle.rm_history.specs.Acts.{Act, History, changes, undoes, enters, commits, ends, marks, act_of, acts_onto, acts_of}
+use Rattle.rm_history.proofs.Appending.{acts_of-snoc, acts_onto-append}
 use Rattle.rm_history.specs.Transactions.{HasRecord, HasChange}
 
--- a record behind a log is the newest of its history
-pub acts_onto-push : (history : History) (log : List Logged) (newest : Logged) → acts_onto history (log ++ newest ∷ []) ≡ act_of newest ∷ acts_onto history log
-acts_onto-push history [] newest = refl
-acts_onto-push history (oldest ∷ log) newest = acts_onto-push (act_of oldest ∷ history) log newest
-
--- the front with one record more
+-- the prefix with one record more
 pub acts_more : (log : List Logged) (i : ℕ) (newest : Logged) → i < length log → newest ≡ get_or log i newest → acts_of (take (i + 1) log) ≡ act_of newest ∷ acts_of (take i log)
 acts_more log i newest inside is =
-    ap acts_of (take_more log i newest inside ∙ ap (λ (x : Logged). take i log ++ x ∷ []) (sym is)) ∙ acts_onto-push [] (take i log) newest
+    ap acts_of (take_more log i newest inside ∙ ap (λ (x : Logged). take i log ++ x ∷ []) (sym is)) ∙ acts_of-snoc (take i log) newest
 
--- ---- what a front has, the log has
+-- ---- what a prefix has, the log has
 
-pub acts_onto-append : (history : History) (xs ys : List Logged) → acts_onto history (xs ++ ys) ≡ acts_onto (acts_onto history xs) ys
-acts_onto-append history [] ys = refl
-acts_onto-append history (oldest ∷ xs) ys = acts_onto-append (act_of oldest ∷ history) xs ys
-
--- what stays as records are added, and holds of the front with this record, holds of the log
+-- what stays as records are added, and holds of the prefix with this record, holds of the log
 along : (P : History → Type 0) → ((act : Act) (before : History) → P before → P (act ∷ before)) → (log : List Logged) (history : History) → P history → P (acts_onto history log)
 along P stays [] history holds = holds
 along P stays (oldest ∷ log) history holds = along P stays log (act_of oldest ∷ history) (stays (act_of oldest) history holds)
@@ -30,9 +22,9 @@ along P stays (oldest ∷ log) history holds = along P stays log (act_of oldest 
 whole : (P : History → Type 0) → ((act : Act) (before : History) → P before → P (act ∷ before))
     → (log : List Logged) (i : ℕ) (newest : Logged) → i < length log → newest ≡ get_or log i newest → P (act_of newest ∷ acts_of (take i log)) → P (acts_of log)
 whole P stays log i newest inside is holds =
-    let front : P (acts_of (take (i + 1) log)) = subst P (sym (acts_more log i newest inside is)) holds in
+    let prefix : P (acts_of (take (i + 1) log)) = subst P (sym (acts_more log i newest inside is)) holds in
     let split : acts_onto (acts_of (take (i + 1) log)) (drop (i + 1) log) ≡ acts_of log = sym (acts_onto-append [] (take (i + 1) log) (drop (i + 1) log)) ∙ ap acts_of (take-append-drop (i + 1) log) in
-    subst P split (along P stays (drop (i + 1) log) (acts_of (take (i + 1) log)) front)
+    subst P split (along P stays (drop (i + 1) log) (acts_of (take (i + 1) log)) prefix)
 
 has_change_stays : (txn : ℕ) (rid : Rid) (act : Act) (before : History) → HasChange before txn rid → HasChange (act ∷ before) txn rid
 has_change_stays txn rid (changes c) before has = inr has
