@@ -2,8 +2,7 @@
 
 ghost use Rattle.std.specs.Prelude.{◌≡◌, ◌≤◌, ◌++◌, replicate, IsTrue, ◌↔◌, IfOk, OnOk};
 ghost use Rattle.rm_types.specs.declared.rows.TheConstants.{MAX_ROW};
-ghost use Rattle.rm_model.specs.Pages.{row_length, set_slot};
-ghost use Rattle.rm_history.specs.Contents.{slot_at};
+ghost use Rattle.rm_model.specs.Pages.{row_length, set_slot, slot_at};
 
 use rm_types::{NoMemory, Slot};
 

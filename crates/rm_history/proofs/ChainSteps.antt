@@ -3,9 +3,9 @@ use Rattle.std.proofs.Common.{◌≡◌, inl, inr, ℕ, eqb, List, [], ◌∷◌
 use Rattle.std.proofs.lemmas.Bool.{cond_both, cases_eq}
 use Rattle.rm_types.specs.declared.numbers.Rid.{Rid}
 use Rattle.rm_types.specs.declared.slots.Slot.{Slot}
-use Rattle.rm_model.specs.Pages.{row_of}
+use Rattle.rm_model.specs.Pages.{row_of, slot_at}
 use Rattle.rm_history.specs.Acts.{Change, Undo, Finish, History, changes, undoes, commits, ends}
-use Rattle.rm_history.specs.Contents.{slot_at, page_of}
+use Rattle.rm_history.specs.Contents.{page_of}
 use Rattle.rm_history.specs.Pending.{older, pending_of}
 use Rattle.rm_history.specs.Rows.{rows_of_log}
 use Rattle.rm_history.specs.Rules.{MayChange, MayUndo, MayEnd, IsInOrder}

@@ -2,7 +2,8 @@
 use Rattle.std.proofs.Common.{◌≡◌, inl, inr, ℕ, ◌<◌, List, [], ◌∷◌, length, refl, sym, subst}
 use Rattle.rm_types.specs.declared.numbers.Rid.{Rid}
 use Rattle.rm_history.specs.Acts.{Change, History, changes, undoes, enters, commits, ends, marks}
-use Rattle.rm_history.specs.Contents.{slot_at, page_of}
+use Rattle.rm_model.specs.Pages.{slot_at}
+use Rattle.rm_history.specs.Contents.{page_of}
 use Rattle.rm_history.specs.Pending.{pending_of}
 use Rattle.rm_history.specs.Transactions.{IsFinished}
 use Rattle.rm_history.specs.Rows.{rows_of_log}

@@ -3,10 +3,9 @@ use Rattle.std.proofs.Common.{◌≡◌, ◌⊎◌, inl, inr, ℕ, ◌<◌, ◌�
 use Rattle.std.proofs.lemmas.Bool.{cases_Bool, eq-eqb, ne_eqb, cond-true, cond-false, cases_eq}
 use Rattle.rm_types.specs.declared.numbers.Rid.{Rid}
 use Rattle.rm_types.specs.declared.slots.Slot.{Slot}
-use Rattle.rm_model.specs.Pages.{set_slot}
+use Rattle.rm_model.specs.Pages.{set_slot, slot_at}
 use Rattle.rm_model.proofs.Slots.{set_slot_at, set_slot_other, length-set_slot}
 use Rattle.rm_history.specs.Acts.{Change, Undo, Finish, History, changes, undoes, commits, ends}
-use Rattle.rm_history.specs.Contents.{slot_at}
 use Rattle.rm_history.specs.Pending.{older, pending_of}
 
 -- ---- tests of numbers and of row ids

@@ -2,8 +2,8 @@
 use Rattle.std.proofs.Common.{◌≡◌, ℕ, ◌<◌, [], ◌∷◌, refl, arith, lit<}
 use Rattle.rm_types.specs.declared.formats.Format.TheVariants.{One}
 use Rattle.rm_types.specs.declared.slots.Slot.TheVariants.{Vacant}
-use Rattle.rm_model.specs.Pages.{used}
-use Rattle.rm_history.specs.Contents.{slot_at, page_of, category_of}
+use Rattle.rm_model.specs.Pages.{used, slot_at}
+use Rattle.rm_history.specs.Contents.{page_of, category_of}
 use Rattle.rm_history.specs.Room.{growth_for, IsExcluded, IsSlotForRow}
 use Rattle.rm_history.proofs.ExampleLogs.{row, deleted}
 

@@ -1,15 +1,15 @@
 -- A transaction's last pending change can always be undone: its page has the room.
-use Rattle.std.proofs.Common.{◌≡◌, inl, inr, ℕ, zero, suc, ◌+◌, ◌<◌, ◌≤◌, List, [], ◌∷◌, length, refl, sym, ap, subst, ◌∙◌, arith}
+use Rattle.std.proofs.Common.{◌≡◌, inl, inr, ℕ, ◌+◌, ◌<◌, ◌≤◌, List, [], ◌∷◌, length, refl, sym, ap, subst, ◌∙◌, arith}
 use Rattle.std.proofs.lemmas.Bool.{cases_eq, eq-eqb, ne_eqb}
 use Rattle.rm_types.specs.declared.formats.Format.{Format}
 use Rattle.rm_types.specs.declared.formats.Format.TheVariants.{One}
-use Rattle.rm_model.specs.Pages.{used, row_length, set_slot}
+use Rattle.rm_model.specs.Pages.{used, row_length, set_slot, slot_at}
 use Rattle.rm_history.specs.Acts.{Change, Undo, Entry, History, undoes, newest_lsn}
-use Rattle.rm_history.specs.Contents.{slot_at, page_of, entry_of}
+use Rattle.rm_history.specs.Contents.{page_of, entry_of}
 use Rattle.rm_history.specs.Pending.{pending_of}
 use Rattle.rm_history.specs.Transactions.{IsFinished}
 use Rattle.rm_history.specs.Rows.{rows_of_log}
-use Rattle.rm_history.specs.Needs.{need_of, sum_below, Fits}
+use Rattle.rm_history.specs.Needs.{need_of, Fits}
 use Rattle.rm_history.specs.Rules.{MayUndo, MayEnter, Follows, IsInOrder}
 use Rattle.rm_history.specs.Legal.{EntriesFollow, IsLegal}
 use Rattle.rm_history.specs.Undoing.{category_after, entry_for, undo_for, Settles, Undone}
