@@ -123,9 +123,9 @@ entered_breaks_none format (marks m) before is = tt
 -- a record with which a history is legal breaks none of its conditions
 legal_breaks_none : (format : Format) (act : Act) (before : History) → IsLegal format (act ∷ before) → BreaksNone format (conditions_of act) before act
 legal_breaks_none format act before legal =
-    let behind : BreaksNone format (why.EntryBehind ∷ []) before act = (λ no. no legal.2.follow, tt) in
+    let last : BreaksNone format (why.EntryBehind ∷ []) before act = (λ no. no legal.2.follow, tt) in
     let inventory : BreaksNone format (entering_of act ++ why.EntryBehind ∷ []) before act =
-    none_append format (entering_of act) (why.EntryBehind ∷ []) before act (entered_breaks_none format act before legal.2.entered) behind in (
+    none_append format (entering_of act) (why.EntryBehind ∷ []) before act (entered_breaks_none format act before legal.2.entered) last in (
       λ no. no legal.1.above,
       none_append format (coming_of act) (why.NoRoom ∷ entering_of act ++ why.EntryBehind ∷ []) before act (may_breaks_none format act before legal.1.may_come) (λ no. no legal.1.fits, inventory),
     )

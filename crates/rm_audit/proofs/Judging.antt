@@ -1,4 +1,4 @@
--- What an audit looks at behind a record tells whether there is room on all pages, and whether the inventory follows.
+-- What an audit looks at after a record decides whether there is room on all pages, and whether the inventory follows.
 use Rattle.std.proofs.Common.{◌≡◌, ℕ, ◌+◌, ◌-◌, ◌<◌, Bool, true, false, IsTrue, ◌↔◌, MatchBool, List, ◌∷◌, Some, None, length, take, get_or, refl, sym, ap, subst, ◌∙◌, arith}
 use Rattle.std.proofs.lemmas.List.{take_all}
 use Rattle.std.proofs.lemmas.Option.{same_Some}
@@ -30,7 +30,7 @@ newest_is log last some is =
 pub above_is : (before : List Logged) (last : Logged) → newest_lsn (acts_of before) < last.lsn.0 → newest_lsn (acts_of before) < lsn_of (act_of last)
 above_is before last above = omega (arith, above, lsn_of-act_at last.lsn.0 last.what)
 
--- room behind a log is room behind its history
+-- room after a log is room after its history
 pub has_fits : (format : Format) (before : List Logged) (last : Logged) (history : History) → history ≡ act_of last ∷ acts_of before → IsLegal format (acts_of before) → MayCome (acts_of before) (act_of last)
     → (MayCome (acts_of before) (act_of last) → Fits (acts_of before) → Fits history) → Fits (act_of last ∷ acts_of before)
 has_fits format before last history is legal may room = subst Fits is (room may (fits_in_order (acts_of before) (legal_is_in_order format (acts_of before) legal)))

@@ -3,7 +3,9 @@ use Rattle.std.proofs.Common.{◌≡◌, ℕ, ◌+◌, ◌<◌, List, [], ◌∷
 use Rattle.std.proofs.lemmas.List.{take_more, take-append-drop}
 use Rattle.rm_types.specs.declared.numbers.Rid.{Rid}
 use Rattle.rm_record.specs.declared.records.Logged.{Logged}
-use Rattle.rm_history.specs.Acts.{Act, History, changes, undoes, enters, commits, ends, marks, act_of, acts_onto, acts_of}
+use Rattle.rm_history.specs.Acts.{Act, History, act_of, acts_onto, acts_of}
+use Rattle.rm_history.proofs.PendingLaws.{change_stays}
+use Rattle.rm_history.proofs.Finished.{record_stays}
 use Rattle.rm_history.proofs.Appending.{acts_of-snoc, acts_onto-append}
 use Rattle.rm_history.specs.Transactions.{HasRecord, HasChange}
 
@@ -26,26 +28,10 @@ whole P stays log i newest inside is holds =
     let split : acts_onto (acts_of (take (i + 1) log)) (drop (i + 1) log) ≡ acts_of log = sym (acts_onto-append [] (take (i + 1) log) (drop (i + 1) log)) ∙ ap acts_of (take-append-drop (i + 1) log) in
     subst P split (along P stays (drop (i + 1) log) (acts_of (take (i + 1) log)) prefix)
 
-has_change_stays : (txn : ℕ) (rid : Rid) (act : Act) (before : History) → HasChange before txn rid → HasChange (act ∷ before) txn rid
-has_change_stays txn rid (changes c) before has = inr has
-has_change_stays txn rid (undoes u) before has = has
-has_change_stays txn rid (enters e) before has = has
-has_change_stays txn rid (commits f) before has = has
-has_change_stays txn rid (ends f) before has = has
-has_change_stays txn rid (marks m) before has = has
-
-has_record_stays : (txn : ℕ) (act : Act) (before : History) → HasRecord before txn → HasRecord (act ∷ before) txn
-has_record_stays txn (changes c) before has = inr has
-has_record_stays txn (undoes u) before has = inr has
-has_record_stays txn (enters e) before has = inr has
-has_record_stays txn (commits f) before has = inr has
-has_record_stays txn (ends f) before has = inr has
-has_record_stays txn (marks m) before has = has
-
 pub log_has_change : (log : List Logged) (i : ℕ) (newest : Logged) (txn : ℕ) (rid : Rid) → i < length log → newest ≡ get_or log i newest
     → HasChange (act_of newest ∷ acts_of (take i log)) txn rid → HasChange (acts_of log) txn rid
-log_has_change log i newest txn rid inside is has = whole (λ h. HasChange h txn rid) (has_change_stays txn rid) log i newest inside is has
+log_has_change log i newest txn rid inside is has = whole (λ h. HasChange h txn rid) (change_stays txn rid) log i newest inside is has
 
 pub log_has_record : (log : List Logged) (i : ℕ) (newest : Logged) (txn : ℕ) → i < length log → newest ≡ get_or log i newest
     → HasRecord (act_of newest ∷ acts_of (take i log)) txn → HasRecord (acts_of log) txn
-log_has_record log i newest txn inside is has = whole (λ h. HasRecord h txn) (has_record_stays txn) log i newest inside is has
+log_has_record log i newest txn inside is has = whole (λ h. HasRecord h txn) (record_stays txn) log i newest inside is has

@@ -1,4 +1,4 @@
-//! Whether a checkpoint may come behind a log.
+//! Whether a checkpoint may come after a log.
 
 ghost use Rattle.std.specs.Prelude.{◌≡◌, ℕ, ◌<◌, List, IsTrue, ◌↔◌, IfOk, MatchOption, MatchBool};
 ghost use Rattle.rm_types.specs.declared.formats.Format.{Format as Formats};
@@ -103,7 +103,7 @@ fn misplaced(alloc: Global, log: &[Logged], losers: &[Place]) -> Result<Option<P
     Ok(None)
 }
 
-/// What a checkpoint breaks first of what may come behind a log.
+/// What a checkpoint breaks first of what may come after a log.
 pub(crate) fn check_listing(
     alloc: Global,
     log: &[Logged],

@@ -48,7 +48,7 @@ pub(crate) fn holds(slots: &[Slot], number: u16, slot: &Slot) -> bool
     }
 }
 
-// Puts so many vacant slots behind them.
+// Puts `count` vacant slots after them.
 fn pad(slots: &mut Vec<Slot>, count: usize) -> Result<(), NoMemory>
     ensures { OnOk result (slots.new.items ≡ slots.old.items ++ replicate count Slot.Vacant) }
 {

@@ -38,7 +38,7 @@ fn changer_of(logged: &Logged, place: Rid) -> Option<TxnId>
     }
 }
 
-// Whether a transaction is finished behind one record more.
+// Whether a transaction is finished after one record more.
 fn finished_step(finished: bool, logged: &Logged, of: TxnId) -> bool
     ensures { (before : History) → (IsTrue finished ↔ IsFinished before of.0) → (IsTrue result ↔ IsFinished (act_of logged.now ∷ before) of.0) }
 {
@@ -60,7 +60,7 @@ pub fn is_finished(log: &[Logged], txn: TxnId) -> bool
     finished
 }
 
-// Whether a transaction has a record, behind one record more.
+// Whether a transaction has a record, after one record more.
 fn has_record_step(has: bool, logged: &Logged, txn: TxnId) -> bool
     ensures { (before : History) → (IsTrue has ↔ HasRecord before txn.0) → (IsTrue result ↔ HasRecord (act_of logged.now ∷ before) txn.0) }
 {

@@ -38,7 +38,7 @@ AllLead history = (rid : Rid) (txn : ℕ) → IsAlone history rid txn → LeadsF
 pub alone_there : (history : History) → IsInOrder history → (rid : Rid) (txn : ℕ) → IsChanged (pending_of history txn) rid → IsAlone history rid txn
 alone_there history ordered rid txn changed other different other_changed = different (pending_is_of_one history ordered rid txn other changed other_changed)
 
--- ---- behind a change
+-- ---- after a change
 
 held-change : (c : Change) (before : History) (rid : Rid) → c.rid ≡ rid → c.after ≡ held_in (changes c ∷ before) rid
 held-change c before rid here = subst (λ (r : Rid). c.after ≡ held_in (changes c ∷ before) r) here (sym (slot_at-put (page_of before) c.rid c.after))
@@ -87,7 +87,7 @@ all_lead-change c before may lead rid txn alone = elim (cases_eq c.txn txn) [
       leads-change_other c before rid txn different elsewhere (lead rid txn before_alone)
 ]
 
--- ---- behind an undo
+-- ---- after an undo
 
 held-undo : (u : Undo) (before : History) (rid : Rid) → u.rid ≡ rid → u.back ≡ held_in (undoes u ∷ before) rid
 held-undo u before rid here = subst (λ (r : Rid). u.back ≡ held_in (undoes u ∷ before) r) here (sym (slot_at-put (page_of before) u.rid u.back))
@@ -134,7 +134,7 @@ leads-undo_here u before ordered may rid txn different here alone lead =
     unchanged_leads rid (held_in (undoes u ∷ before) rid) (pending_of (undoes u ∷ before) txn) (rows_of_log before rid) none
     (unchanged_row rid (held_in (undoes u ∷ before) rid) may.is_last.0 (rows_of_log before rid) none_left back)
 
--- behind the undo its rest is pending
+-- after the undo its rest is pending
 changed_rest : (u : Undo) (before : History) (may : MayUndo before u) (rid : Rid) → (u.rid ≡ rid → ⊥) → IsChanged (may.last ∷ may.is_last.0) rid → IsChanged (pending_of (undoes u ∷ before) u.txn) rid
 changed_rest u before may rid elsewhere (inl here) = absurd (elsewhere (may.rid_is ∙ here))
 changed_rest u before may rid elsewhere (inr earlier) = subst (IsAt rid) (sym (pending-undo_rest u before may)) earlier
@@ -166,7 +166,7 @@ all_lead-undo u before ordered may lead rid txn alone = elim (cases_eq u.txn txn
   ]
 ]
 
--- ---- behind a commit
+-- ---- after a commit
 
 -- the row id holds the row that the commit makes, where its transaction has one pending there
 held_row : (f : Finish) (before : History) (rid : Rid) → AllLead before → IsAlone before rid f.txn → row_of (held_in before rid) ≡ rows_of_log (commits f ∷ before) rid
@@ -210,7 +210,7 @@ all_lead-commit f before ordered lead rid txn alone = elim (cases_eq f.txn txn) 
   ]
 ]
 
--- ---- behind the end of a rollback, which leaves what is pending
+-- ---- after the end of a rollback, which leaves what is pending
 
 pub pending-ended : (f : Finish) (before : History) (txn : ℕ) → MayEnd before f → pending_of (ends f ∷ before) txn ≡ pending_of before txn
 pending-ended f before txn may = elim (cases_eq f.txn txn) [

@@ -7,7 +7,7 @@ use Rattle.rm_history.specs.Acts.{Act, History, changes, undoes, enters, commits
 
 -- ---- records
 
--- a slot that holds a row of so many bytes
+-- a slot that holds a row of this many bytes
 abbrev pub row : ℕ → Slot
 row len = Row (replicate len 97)
 

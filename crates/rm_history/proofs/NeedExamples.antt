@@ -20,7 +20,7 @@ need_of_committed = refl
 need_is_the_most : (used (page_of inserted_and_deleted 0) ≡ 3980) × (need_of inserted_and_deleted 2 0 ≡ 100)
 need_is_the_most = (refl, refl)
 
--- what is inserted behind a delete does: it is undone before
+-- what is inserted after a delete does: it is undone before
 need_is_given_back : need_of deleted_and_inserted 2 0 ≡ 50
 need_is_given_back = refl
 

@@ -95,7 +95,7 @@ net_agree log other txn (changes c ∷ acts) agree =
     ]
 net_agree log other txn (act ∷ acts) agree = net_agree log other txn acts agree
 
--- a change in front of two parts
+-- a change in prefix of two parts
 net_pushed : (mine undone : Bool) (c : Change) (first second : List Change)
     → cond mine (cond undone (first ++ second) (c ∷ first ++ second)) (first ++ second) ≡ cond mine (cond undone first (c ∷ first)) first ++ second
 net_pushed true true c first second = refl

@@ -42,12 +42,12 @@ module _ (area : Bytes) where
       records_once batch other is.records other_is.records spelled
 
   -- what stands without the newest batches
-  pub stands_front : (more batches : List Batch) → Stands area (more ++ batches) → Stands area batches
-  stands_front [] batches stands = stands
-  stands_front (newest ∷ more) batches stands = stands_front more batches stands.0
+  pub stands_prefix : (more batches : List Batch) → Stands area (more ++ batches) → Stands area batches
+  stands_prefix [] batches stands = stands
+  stands_prefix (newest ∷ more) batches stands = stands_prefix more batches stands.0
 
   -- the newest and the oldest of some
-  pub last_of : (newest : Batch) (more : List Batch) → (front : List Batch) × (oldest : Batch) × (newest ∷ more ≡ front ++ oldest ∷ [])
+  pub last_of : (newest : Batch) (more : List Batch) → (prefix : List Batch) × (oldest : Batch) × (newest ∷ more ≡ prefix ++ oldest ∷ [])
   last_of newest [] = ([], newest, refl)
   last_of newest (next ∷ more) = let rest = last_of next more in (newest ∷ rest.0, rest.1, ap (λ (l : List Batch). newest ∷ l) rest.2)
 
@@ -60,7 +60,7 @@ module _ (area : Bytes) where
   overlap_more newest batches others (next ∷ more) stands others_stand is =
       let parts = last_of next more in
       let split : others ≡ parts.0 ++ (parts.1 ∷ batches) = is ∙ ap (λ (l : List Batch). l ++ batches) parts.2 ∙ append_assoc parts.0 (parts.1 ∷ []) batches in
-      let there : Stands area (parts.1 ∷ batches) = stands_front parts.0 (parts.1 ∷ batches) (subst (Stands area) split others_stand) in
+      let there : Stands area (parts.1 ∷ batches) = stands_prefix parts.0 (parts.1 ∷ batches) (subst (Stands area) split others_stand) in
       let same : parts.1 ≡ newest = batch_once (gate_of batches) parts.1 newest there.1 stands.1 there.3 stands.3 in
       inr (parts.0, split ∙ ap (λ (b : Batch). parts.0 ++ (b ∷ batches)) same)
 
@@ -71,17 +71,17 @@ module _ (area : Bytes) where
     | inr found ↦ overlap_more newest batches others found.0 stands others_stand found.1
   ]
 
-  -- behind a closed gate there is no other batch
-  pub none_behind : (batches others more : List Batch) → (area (gate_of others) ≡ 1 → ⊥) → Stands area batches → batches ≡ more ++ others → batches ≡ others
-  none_behind batches others [] shut stands is = is
-  none_behind batches others (next ∷ more) shut stands is =
+  -- after a closed gate there is no other batch
+  pub none_after : (batches others more : List Batch) → (area (gate_of others) ≡ 1 → ⊥) → Stands area batches → batches ≡ more ++ others → batches ≡ others
+  none_after batches others [] shut stands is = is
+  none_after batches others (next ∷ more) shut stands is =
       let parts = last_of next more in
       let split : batches ≡ parts.0 ++ (parts.1 ∷ others) = is ∙ ap (λ (l : List Batch). l ++ others) parts.2 ∙ append_assoc parts.0 (parts.1 ∷ []) others in
-      let there : Stands area (parts.1 ∷ others) = stands_front parts.0 (parts.1 ∷ others) (subst (Stands area) split stands) in
+      let there : Stands area (parts.1 ∷ others) = stands_prefix parts.0 (parts.1 ∷ others) (subst (Stands area) split stands) in
       absurd (shut there.2)
 
   pub log_once : (batches others : List Batch) → HasLog area batches → HasLog area others → batches ≡ others
   log_once batches others has other_has = elim (overlap batches others has.stands other_has.stands) [
-    | inl found ↦ none_behind batches others found.0 other_has.closed has.stands found.1
-    | inr found ↦ sym (none_behind others batches found.0 has.closed other_has.stands found.1)
+    | inl found ↦ none_after batches others found.0 other_has.closed has.stands found.1
+    | inr found ↦ sym (none_after others batches found.0 has.closed other_has.stands found.1)
   ]

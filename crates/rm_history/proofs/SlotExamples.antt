@@ -36,9 +36,9 @@ taken lower below vacant =
     let held : row 1 ≡ Vacant = rw first at vacant in
     absurd cc
 
--- so it is put behind it
-behind_a_row : IsSlotForRow (λ number. ⊥) (row 1 ∷ []) 1
-behind_a_row = record { vacant = refl; free = λ held. held; least = λ lower below vacant free. taken lower below vacant }
+-- so it is put after it
+after_a_row : IsSlotForRow (λ number. ⊥) (row 1 ∷ []) 1
+after_a_row = record { vacant = refl; free = λ held. held; least = λ lower below vacant free. taken lower below vacant }
 
 -- a directory grows by the entries up to the new slot's, and by none for a slot that it has
 growths : (growth_for 1 1 ≡ 4) × (growth_for 1 3 ≡ 12) × (growth_for 2 0 ≡ 0)

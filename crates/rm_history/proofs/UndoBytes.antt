@@ -57,11 +57,11 @@ done_by format before settled last lsn (inr differs) =
 done : (format : Format) (before new : History) (last : Change) → Undone format before last new → IsDone format before last new
 done format before new last undone = subst (IsDone format before last) (sym undone.new_is) (done_by format before undone.settled last undone.lsn undone.settles)
 
--- histories that are alike do not differ in the category behind an undo
+-- histories that are alike do not differ in the category after an undo
 category_alike : (format : Format) (history other : History) (last : Change) → AreAlike history other → category_after format history last ≡ category_after format other last
 category_alike format history other last alike = ap (λ (slots : List Slot). category_of format (set_slot slots last.rid.slot last.before)) (alike.pages last.rid.page)
 
--- nor in the pages and entries behind it
+-- nor in the pages and entries after it
 done_alike : (format : Format) (history other new newer : History) (last : Change) → AreAlike history other → IsDone format history last new → IsDone format other last newer → AreAlike new newer
 done_alike format history other new newer last alike one two = record {
   pages = λ page. one.pages page
@@ -179,7 +179,7 @@ undo_bytes-entered format before last rest lsn ordered is wrong above =
     undo_bytes-loser format mid new last rest (with_number-there last.txn (losers_of before)) is two in
     omega (arith, wanted, none, all, less)
 
--- and behind all undo each end takes its own
+-- and after all undo each end takes its own
 pub undo_bytes-ended : (format : Format) (before new : History) (txn : ℕ) (rest : List ℕ) → all_pending before ≡ [] → losers_of before ≡ txn ∷ rest → Ended before txn new
     → undo_bytes format before ≡ bytes_of (end_record txn) + undo_bytes format new
 undo_bytes-ended format before new txn rest none are ended =

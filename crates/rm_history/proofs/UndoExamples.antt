@@ -27,7 +27,7 @@ losers_in_order = (refl, refl)
 bytes_of_delete : undo_bytes One deleted ≡ 4060
 bytes_of_delete = refl
 
--- with nothing pending: the end alone, and behind it nothing
+-- with nothing pending: the end alone, and after it nothing
 bytes_of_ends : (undo_bytes One undone ≡ 10) × (undo_bytes One ended ≡ 0)
 bytes_of_ends = (refl, refl)
 
@@ -43,7 +43,7 @@ bytes_with_entry = (refl, refl)
 bytes_without_entry : (used (page_of stays_behind 0) ≡ 1132) × (undo_bytes One stays_behind ≡ 43)
 bytes_without_entry = (refl, refl)
 
--- behind the first of two undos the entry is right for the second: one record of it (15), two compensations (33 each), and the end (10)
+-- after the first of two undos the entry is right for the second: one record of it (15), two compensations (33 each), and the end (10)
 bytes_of_two : undo_bytes One two_pending ≡ 91
 bytes_of_two = refl
 
@@ -51,6 +51,6 @@ bytes_of_two = refl
 bytes_of_two_long : (used (page_of two_long_pending 0) ≡ 2208) × (undo_bytes One two_long_pending ≡ 106)
 bytes_of_two_long = (refl, refl)
 
--- behind the first undo a category that was not entered yet is, and behind the second the one without the rows: two records too
+-- after the first undo a category that was not entered yet is, and after the second the one without the rows: two records too
 bytes_of_not_entered : (used (page_of not_entered 0) ≡ 1208) × (undo_bytes One not_entered ≡ 106)
 bytes_of_not_entered = (refl, refl)

@@ -141,10 +141,10 @@ number_takes w limit wide bytes x fits e =
     let found : ℕ × List ℕ = (from_be_bytes w (take (byte_len w) bytes), drop (byte_len w) bytes) in
     let g = not_failed (ltb (length bytes) (byte_len w)) found x e in
     let long : byte_len w ≤ length bytes = ltb-false _ _ g.0 in
-    let front_fits = AreBytes-take (byte_len w) bytes fits in
-    let front : to_be_bytes w found.0 ≡ take (byte_len w) bytes = wide.back (take (byte_len w) bytes) (omega (arith, length-take (byte_len w) bytes)) front_fits in
-    let whole : Takes bytes (to_be_bytes w found.0) found.1 = record { parts = rw front (sym (take-append-drop (byte_len w) bytes)); rest_fits = AreBytes-drop (byte_len w) bytes fits } in
-    subst (λ (y : ℕ × List ℕ). Takes bytes (to_be_bytes w y.0) y.1 × (y.0 < limit)) g.1 (whole, wide.below (take (byte_len w) bytes) front_fits)
+    let first_fits = AreBytes-take (byte_len w) bytes fits in
+    let first : to_be_bytes w found.0 ≡ take (byte_len w) bytes = wide.back (take (byte_len w) bytes) (omega (arith, length-take (byte_len w) bytes)) first_fits in
+    let whole : Takes bytes (to_be_bytes w found.0) found.1 = record { parts = rw first (sym (take-append-drop (byte_len w) bytes)); rest_fits = AreBytes-drop (byte_len w) bytes fits } in
+    subst (λ (y : ℕ × List ℕ). Takes bytes (to_be_bytes w y.0) y.1 × (y.0 < limit)) g.1 (whole, wide.below (take (byte_len w) bytes) first_fits)
 
 number_again : (w : Width) (limit : ℕ) (wide : IsWide w limit) (n : ℕ) (rest : List ℕ) → n < limit → number_field w (to_be_bytes w n ++ rest) ≡ Some (n, rest)
 number_again w limit wide n rest lt =
