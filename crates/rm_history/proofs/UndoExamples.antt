@@ -1,11 +1,13 @@
--- The definitions of what restart undoes and of the bytes of that, on examples.
+-- The definitions of what restart undoes, of what it leaves and of the bytes of that, on examples.
 use Rattle.std.proofs.Common.{◌≡◌, [], ◌∷◌, refl}
 use Rattle.rm_types.specs.declared.formats.Format.TheVariants.{One}
+use Rattle.rm_types.specs.declared.slots.Slot.TheVariants.{Vacant}
 use Rattle.rm_model.specs.Pages.{used}
 use Rattle.rm_history.specs.Contents.{page_of}
+use Rattle.rm_history.specs.Rows.{settled_of}
 use Rattle.rm_history.specs.Losers.{losers_of}
 use Rattle.rm_history.specs.UndoBytes.{undo_bytes}
-use Rattle.rm_history.proofs.ExampleLogs.{deleted, undone, ended, the_last_first, in_turn, falls_behind, stays_behind, two_pending, two_long_pending, not_entered}
+use Rattle.rm_history.proofs.ExampleLogs.{row, deleted, undone, ended, the_last_first, in_turn, falls_behind, stays_behind, two_pending, two_long_pending, not_entered}
 
 -- ---- losers
 
@@ -20,6 +22,16 @@ loser_of_undo = (refl, refl)
 -- they are in the order of their ids, however they began, and each is one once
 losers_in_order : (losers_of the_last_first ≡ 1 ∷ 3 ∷ []) × (losers_of in_turn ≡ 1 ∷ 2 ∷ 3 ∷ [])
 losers_in_order = (refl, refl)
+
+-- ---- pages
+
+-- a row that is deleted and not committed so is there again, and one that is inserted and not committed leaves its slot vacant
+settled_pages : (settled_of deleted 0 ≡ row 4000 ∷ []) × (settled_of undone 0 ≡ Vacant ∷ []) × (settled_of the_last_first 0 ≡ Vacant ∷ row 1 ∷ Vacant ∷ [])
+settled_pages = (refl, refl, refl)
+
+-- a page without slots has none
+settled_elsewhere : settled_of deleted 1 ≡ []
+settled_elsewhere = refl
 
 -- ---- bytes
 
