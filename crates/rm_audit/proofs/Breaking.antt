@@ -18,24 +18,28 @@ BreaksNone format (x ∷ xs) before act = (Breaks format x before act → ⊥) �
 -- ---- lists of conditions
 
 -- where none of two parts is broken, none of both is
-none_append : (format : Format) (xs ys : List Illegal) (before : History) (act : Act) → BreaksNone format xs before act → BreaksNone format ys before act → BreaksNone format (xs ++ ys) before act
+none_append : (format : Format) (xs ys : List Illegal) (before : History) (act : Act) → BreaksNone format xs before act
+    → BreaksNone format ys before act → BreaksNone format (xs ++ ys) before act
 none_append format [] ys before act none also = also
 none_append format (x ∷ xs) ys before act none also = (none.0, none_append format xs ys before act none.1 also)
 
 -- where none is broken, none is broken first
-none_first : (format : Format) (xs : List Illegal) (before : History) (act : Act) (broken : Illegal) → BreaksNone format xs before act → IsFirstBroken format xs before act broken → ⊥
+none_first : (format : Format) (xs : List Illegal) (before : History) (act : Act) (broken : Illegal) → BreaksNone format xs before act
+    → IsFirstBroken format xs before act broken → ⊥
 none_first format [] before act broken none first = first
 none_first format (x ∷ xs) before act broken none first =
     elim first [ inl here ↦ none.0 here.1 | inr later ↦ none_first format xs before act broken none.1 later.1 ]
 
 -- the first of a prefix that is broken is the first of all
-pub first_append : (format : Format) (xs ys : List Illegal) (before : History) (act : Act) (broken : Illegal) → IsFirstBroken format xs before act broken → IsFirstBroken format (xs ++ ys) before act broken
+pub first_append : (format : Format) (xs ys : List Illegal) (before : History) (act : Act) (broken : Illegal)
+    → IsFirstBroken format xs before act broken → IsFirstBroken format (xs ++ ys) before act broken
 first_append format [] ys before act broken first = absurd first
 first_append format (x ∷ xs) ys before act broken first =
     elim first [ inl here ↦ inl here | inr later ↦ inr (later.0, first_append format xs ys before act broken later.1) ]
 
 -- where none of a prefix is broken, the first of the rest is the first of all
-pub first_after : (format : Format) (xs ys : List Illegal) (before : History) (act : Act) (broken : Illegal) → BreaksNone format xs before act → IsFirstBroken format ys before act broken
+pub first_after : (format : Format) (xs ys : List Illegal) (before : History) (act : Act) (broken : Illegal)
+    → BreaksNone format xs before act → IsFirstBroken format ys before act broken
     → IsFirstBroken format (xs ++ ys) before act broken
 first_after format [] ys before act broken none first = first
 first_after format (x ∷ xs) ys before act broken none first = inr (none.0, first_after format xs ys before act broken none.1 first)
@@ -84,7 +88,8 @@ category_met : (format : Format) (before : History) (e : Entry) → IsEntry form
 category_met format before e is breaks =
     elim is.right [
       | inl now ↦ breaks.0 now
-      | inr undone ↦ breaks.1.2 (undone.2 ∙ ap (λ (x : Change). category_with format before x.rid x.before) (last_is before e.txn breaks.1.0 undone.0 breaks.1.1 undone.1))
+      | inr undone ↦ breaks.1.2
+          (undone.2 ∙ ap (λ (x : Change). category_with format before x.rid x.before) (last_is before e.txn breaks.1.0 undone.0 breaks.1.1 undone.1))
     ]
 
 -- a record of no transaction that may come breaks none of what may come
@@ -127,9 +132,11 @@ legal_breaks_none format act before legal =
     let inventory : BreaksNone format (entering_of act ++ why.EntryBehind ∷ []) before act =
     none_append format (entering_of act) (why.EntryBehind ∷ []) before act (entered_breaks_none format act before legal.2.entered) last in (
       λ no. no legal.1.above,
-      none_append format (coming_of act) (why.NoRoom ∷ entering_of act ++ why.EntryBehind ∷ []) before act (may_breaks_none format act before legal.1.may_come) (λ no. no legal.1.fits, inventory),
+      none_append format (coming_of act) (why.NoRoom ∷ entering_of act ++ why.EntryBehind ∷ []) before act
+          (may_breaks_none format act before legal.1.may_come) (λ no. no legal.1.fits, inventory),
     )
 
 -- a record that breaks one first makes no legal history
-pub first_refused : (format : Format) (act : Act) (before : History) (broken : Illegal) → IsFirstBroken format (conditions_of act) before act broken → IsLegal format (act ∷ before) → ⊥
+pub first_refused : (format : Format) (act : Act) (before : History) (broken : Illegal)
+    → IsFirstBroken format (conditions_of act) before act broken → IsLegal format (act ∷ before) → ⊥
 first_refused format act before broken first legal = none_first format (conditions_of act) before act broken (legal_breaks_none format act before legal) first

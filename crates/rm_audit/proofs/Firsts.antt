@@ -14,18 +14,21 @@ use Rattle.rm_audit.proofs.Breaking.{undone_met, rid_met, next_met, first_append
 -- ---- a compensation
 
 -- it breaks the row id first where it names the last pending change
-pub rid_first : (format : Format) (before : History) (u : Undo) (last : Change) → (IsFinished before u.txn → ⊥) → IsLast before u.txn last → u.undone ≡ last.lsn → (u.rid ≡ last.rid → ⊥)
+pub rid_first : (format : Format) (before : History) (u : Undo) (last : Change) → (IsFinished before u.txn → ⊥) → IsLast before u.txn last
+    → u.undone ≡ last.lsn → (u.rid ≡ last.rid → ⊥)
     → IsFirstBroken format (coming_of (undoes u)) before (undoes u) why.Rid
 rid_first format before u last unfinished is undone other = inr (unfinished, inr (undone_met before u last is undone, inl (refl, (last, is, other))))
 
 -- the pending record below, where the row id is right too
-pub next_first : (format : Format) (before : History) (u : Undo) (last : Change) → (IsFinished before u.txn → ⊥) → IsLast before u.txn last → u.undone ≡ last.lsn → u.rid ≡ last.rid → (u.next ≡ last.under → ⊥)
+pub next_first : (format : Format) (before : History) (u : Undo) (last : Change) → (IsFinished before u.txn → ⊥) → IsLast before u.txn last
+    → u.undone ≡ last.lsn → u.rid ≡ last.rid → (u.next ≡ last.under → ⊥)
     → IsFirstBroken format (coming_of (undoes u)) before (undoes u) why.Next
 next_first format before u last unfinished is undone rid other =
     inr (unfinished, inr (undone_met before u last is undone, inr (rid_met before u last is rid, inl (refl, (last, is, other)))))
 
 -- what it puts back, where that record is right too
-pub back_first : (format : Format) (before : History) (u : Undo) (last : Change) → (IsFinished before u.txn → ⊥) → IsLast before u.txn last → u.undone ≡ last.lsn → u.rid ≡ last.rid → u.next ≡ last.under → (u.back ≡ last.before → ⊥)
+pub back_first : (format : Format) (before : History) (u : Undo) (last : Change) → (IsFinished before u.txn → ⊥) → IsLast before u.txn last
+    → u.undone ≡ last.lsn → u.rid ≡ last.rid → u.next ≡ last.under → (u.back ≡ last.before → ⊥)
     → IsFirstBroken format (coming_of (undoes u)) before (undoes u) why.Back
 back_first format before u last unfinished is undone rid next other =
     inr (unfinished, inr (undone_met before u last is undone, inr (rid_met before u last is rid, inr (next_met before u last is next, inl (refl, (last, is, other))))))
@@ -33,7 +36,8 @@ back_first format before u last unfinished is undone rid next other =
 -- ---- any record
 
 -- what is broken first of what may come is the first of all, where the LSN is above
-pub coming_first : (format : Format) (act : Act) (before : History) (broken : Illegal) → newest_lsn before < lsn_of act → IsFirstBroken format (coming_of act) before act broken
+pub coming_first : (format : Format) (act : Act) (before : History) (broken : Illegal) → newest_lsn before < lsn_of act
+    → IsFirstBroken format (coming_of act) before act broken
     → IsFirstBroken format (conditions_of act) before act broken
 coming_first format act before broken above first =
     inr (λ no. no above, first_append format (coming_of act) (why.NoRoom ∷ entering_of act ++ why.EntryBehind ∷ []) before act broken first)
@@ -50,13 +54,15 @@ pub room_first : (format : Format) (act : Act) (before : History) → newest_lsn
 room_first format act before above may none = after_first format act before why.NoRoom above may (inl (refl, none))
 
 -- what is broken first of what it asks of the inventory, where there is room
-pub entering_first : (format : Format) (act : Act) (before : History) (broken : Illegal) → newest_lsn before < lsn_of act → MayCome before act → Fits (act ∷ before)
+pub entering_first : (format : Format) (act : Act) (before : History) (broken : Illegal) → newest_lsn before < lsn_of act
+    → MayCome before act → Fits (act ∷ before)
     → IsFirstBroken format (entering_of act) before act broken → IsFirstBroken format (conditions_of act) before act broken
 entering_first format act before broken above may fits first =
     after_first format act before broken above may (inr (λ no. no fits, first_append format (entering_of act) (why.EntryBehind ∷ []) before act broken first))
 
 -- the inventory after it, where it has what it asks
-pub entry_behind_first : (format : Format) (act : Act) (before : History) → newest_lsn before < lsn_of act → MayCome before act → Fits (act ∷ before) → IsEntered format before act
+pub entry_behind_first : (format : Format) (act : Act) (before : History) → newest_lsn before < lsn_of act → MayCome before act
+    → Fits (act ∷ before) → IsEntered format before act
     → (EntriesFollow format (act ∷ before) → ⊥) → IsFirstBroken format (conditions_of act) before act why.EntryBehind
 entry_behind_first format act before above may fits entered not =
     after_first format act before why.EntryBehind above may

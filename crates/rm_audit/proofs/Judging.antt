@@ -31,12 +31,15 @@ pub above_is : (before : List Logged) (last : Logged) → newest_lsn (acts_of be
 above_is before last above = omega (arith, above, lsn_of-act_at last.lsn.0 last.what)
 
 -- room after a log is room after its history
-pub has_fits : (format : Format) (before : List Logged) (last : Logged) (history : History) → history ≡ act_of last ∷ acts_of before → IsLegal format (acts_of before) → MayCome (acts_of before) (act_of last)
+pub has_fits : (format : Format) (before : List Logged) (last : Logged) (history : History) → history ≡ act_of last ∷ acts_of before
+    → IsLegal format (acts_of before) → MayCome (acts_of before) (act_of last)
     → (MayCome (acts_of before) (act_of last) → Fits (acts_of before) → Fits history) → Fits (act_of last ∷ acts_of before)
-has_fits format before last history is legal may room = subst Fits is (room may (fits_in_order (acts_of before) (legal_is_in_order format (acts_of before) legal)))
+has_fits format before last history is legal may room =
+    subst Fits is (room may (fits_in_order (acts_of before) (legal_is_in_order format (acts_of before) legal)))
 
 -- with all of its parts a record makes a legal history
-pub is_legal : (format : Format) (before : List Logged) (last : Logged) (history : History) → history ≡ act_of last ∷ acts_of before → IsLegal format (acts_of before) → newest_lsn (acts_of before) < last.lsn.0 → MayCome (acts_of before) (act_of last)
+pub is_legal : (format : Format) (before : List Logged) (last : Logged) (history : History) → history ≡ act_of last ∷ acts_of before
+    → IsLegal format (acts_of before) → newest_lsn (acts_of before) < last.lsn.0 → MayCome (acts_of before) (act_of last)
     → Fits (act_of last ∷ acts_of before) → IsEntered format (acts_of before) (act_of last)
     → (MayCome (acts_of before) (act_of last) → IsEntered format (acts_of before) (act_of last) → EntriesFollow format (acts_of before) → EntriesFollow format history)
     → IsLegal format (act_of last ∷ acts_of before)
@@ -47,10 +50,12 @@ is_legal format before last history is legal above may fits entered follow = (
 )
 
 -- room on the page that a record sets is room on all
-pub room_with : (act : Act) (before history : History) (page : ℕ) (found : Bool) → history ≡ act ∷ before → page_in act ≡ Some page → (IsTrue found ↔ FitsOn history page)
+pub room_with : (act : Act) (before history : History) (page : ℕ) (found : Bool) → history ≡ act ∷ before → page_in act ≡ Some page
+    → (IsTrue found ↔ FitsOn history page)
     → MatchBool found (MayCome before act → Fits before → Fits history) (Fits history → ⊥)
 room_with act before history page true is set on =
-    λ may fits. subst Fits (sym is) (keeps_room act before may fits (λ other also. subst (FitsOn (act ∷ before)) (same_Some page other (sym set ∙ also)) (subst (λ (h : History). FitsOn h page) is (on.0 refl))))
+    λ may fits. subst Fits (sym is)
+    (keeps_room act before may fits (λ other also. subst (FitsOn (act ∷ before)) (same_Some page other (sym set ∙ also)) (subst (λ (h : History). FitsOn h page) is (on.0 refl))))
 room_with act before history page false is set on = λ fits. let yes : false ≡ true = on.1 (fits page) in cc
 
 pub room_without : (act : Act) (before history : History) → history ≡ act ∷ before → page_in act ≡ None → MayCome before act → Fits before → Fits history
@@ -58,11 +63,14 @@ room_without act before history is none may fits =
     subst Fits (sym is) (keeps_room act before may fits (λ page set. let both : None ≡ Some page = sym none ∙ set in cc))
 
 -- the inventory follows where no record is a commit, and where the pages of a commit follow
-pub followed_without : (format : Format) (act : Act) (before history : History) → history ≡ act ∷ before → ((txn : ℕ) → IsCommitOf act txn → ⊥) → MayCome before act → IsEntered format before act → EntriesFollow format before → EntriesFollow format history
+pub followed_without : (format : Format) (act : Act) (before history : History) → history ≡ act ∷ before
+    → ((txn : ℕ) → IsCommitOf act txn → ⊥) → MayCome before act → IsEntered format before act → EntriesFollow format before
+    → EntriesFollow format history
 followed_without format act before history is other may entered follow =
     subst (EntriesFollow format) (sym is) (keeps_entries format act before may entered follow (λ txn commit. absurd (other txn commit)))
 
-pub followed_with : (format : Format) (last : Logged) (txn : TxnId) (before history : History) (found : Bool) → last.what ≡ Commit txn → history ≡ act_of last ∷ before
+pub followed_with : (format : Format) (last : Logged) (txn : TxnId) (before history : History) (found : Bool) → last.what ≡ Commit txn
+    → history ≡ act_of last ∷ before
     → MatchBool found (EachFollows format history (pending_of before txn.0)) (EntriesFollow format history → ⊥)
     → MatchBool found (MayCome before (act_of last) → IsEntered format before (act_of last) → EntriesFollow format before → EntriesFollow format history) (EntriesFollow format history → ⊥)
 followed_with format last txn before history true what is each =
@@ -70,7 +78,8 @@ followed_with format last txn before history true what is each =
     λ may entered follow. subst (EntriesFollow format) (sym is) (keeps_entries format (act_of last) before may entered follow
     (λ other commit.
     let same : txn.0 ≡ other = subst (λ (a : Act). IsCommitOf a other) act commit in
-    subst (λ (t : ℕ). EachFollows format (act_of last ∷ before) (pending_of before t)) same (subst (λ (h : History). EachFollows format h (pending_of before txn.0)) is each)))
+    subst (λ (t : ℕ). EachFollows format (act_of last ∷ before) (pending_of before t)) same
+    (subst (λ (h : History). EachFollows format h (pending_of before txn.0)) is each)))
 followed_with format last txn before history false what is each = each
 
 -- what is no commit record does no commit

@@ -22,14 +22,16 @@ some_of txn (newest ∷ before) led none =
     cc
 
 -- the need of the newest change's transaction is put, and its changes are taken out
-pub put_mine : (first now next : List Change) (page txn value need : ℕ) → IsLed txn now → next ≡ without now txn → need ≡ need_in now page txn → IsPut first now page txn value
+pub put_mine : (first now next : List Change) (page txn value need : ℕ) → IsLed txn now → next ≡ without now txn
+    → need ≡ need_in now page txn → IsPut first now page txn value
     → IsPut first next page txn need
 put_mine first now next page txn value need led left is (inl done) = absurd (some_of txn now led done.0)
 put_mine first now next page txn value need led left is (inr begun) =
     inl (ap (of_txn txn) left ∙ of_txn-without txn now, is ∙ ap (λ (l : List Change). need_for (on_page page l)) begun.0)
 
 -- the others keep theirs
-pub put_other : (first now next : List Change) (page by txn value : ℕ) → (by ≡ txn → ⊥) → next ≡ without now by → IsPut first now page txn value → IsPut first next page txn value
+pub put_other : (first now next : List Change) (page by txn value : ℕ) → (by ≡ txn → ⊥) → next ≡ without now by
+    → IsPut first now page txn value → IsPut first next page txn value
 put_other first now next page by txn value other left (inl done) = inl (ap (of_txn txn) left ∙ of_txn-without_other txn by now other ∙ done.0, done.1)
 put_other first now next page by txn value other left (inr begun) = inr (ap (of_txn txn) left ∙ of_txn-without_other txn by now other ∙ begun.0, begun.1)
 

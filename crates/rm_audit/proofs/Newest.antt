@@ -19,7 +19,8 @@ remove_last prefix change =
     remove-append_right prefix (change ∷ []) (length prefix) (length prefix) refl (omega arith) ∙ rw none (append-nil prefix)
 
 -- a change of the transaction after the others is the newest
-pub newest_of_it : (txn : ℕ) (prefix : List Change) (change : Change) (index : ℕ) → length prefix ≡ index → change.txn ≡ txn → IsNewestOf txn (prefix ++ change ∷ []) (Some index)
+pub newest_of_it : (txn : ℕ) (prefix : List Change) (change : Change) (index : ℕ) → length prefix ≡ index → change.txn ≡ txn
+    → IsNewestOf txn (prefix ++ change ∷ []) (Some index)
 newest_of_it txn prefix change index count same =
     let last : remove (prefix ++ change ∷ []) index ≡ prefix = ap (remove (prefix ++ change ∷ [])) (sym count) ∙ remove_last prefix change in (
       omega (arith, length-append prefix (change ∷ []), count),
@@ -27,7 +28,8 @@ newest_of_it txn prefix change index count same =
     )
 
 -- one of another transaction leaves the newest
-pub newest_of_other : (txn : ℕ) (prefix : List Change) (change : Change) (found : Option ℕ) → (change.txn ≡ txn → ⊥) → IsNewestOf txn prefix found → IsNewestOf txn (prefix ++ change ∷ []) found
+pub newest_of_other : (txn : ℕ) (prefix : List Change) (change : Change) (found : Option ℕ) → (change.txn ≡ txn → ⊥)
+    → IsNewestOf txn prefix found → IsNewestOf txn (prefix ++ change ∷ []) found
 newest_of_other txn prefix change None other is =
     ap (λ (l : List Change). without_newest l txn) (reverse-push prefix change)
     ∙ rw (ne_eqb change.txn txn other) (ap (λ (l : List Change). change ∷ l) is) ∙ sym (reverse-push prefix change)
@@ -39,6 +41,7 @@ newest_of_other txn prefix change (Some at) other is = (
 )
 
 -- the prefix of a list with a change more, the other way round
-pub reverse_more : (changes : List Change) (i : ℕ) (change : Change) → i < length changes → change ≡ get_or changes i change → reverse (take (i + 1) changes) ≡ change ∷ reverse (take i changes)
+pub reverse_more : (changes : List Change) (i : ℕ) (change : Change) → i < length changes → change ≡ get_or changes i change
+    → reverse (take (i + 1) changes) ≡ change ∷ reverse (take i changes)
 reverse_more changes i change inside is =
     ap reverse (take_more changes i change inside ∙ ap (λ (x : Change). take i changes ++ x ∷ []) (sym is)) ∙ reverse-push (take i changes) change

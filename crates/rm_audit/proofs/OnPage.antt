@@ -26,10 +26,12 @@ none_of page txn (newest ∷ before) none =
           ]
     ]
 
-pub nothing_on : (history : History) (pending : List Change) (page : ℕ) → pending ≡ all_pending history → on_page page pending ≡ [] → IsPendingOn history page → ⊥
+pub nothing_on : (history : History) (pending : List Change) (page : ℕ) → pending ≡ all_pending history → on_page page pending ≡ []
+    → IsPendingOn history page → ⊥
 nothing_on history pending page is none some =
     some.1 (ap (on_page page) (pending_of_all history some.0) ∙ none_of page some.0 (all_pending history) (ap (on_page page) (sym is) ∙ none))
 
-pub something_on : (history : History) (pending : List Change) (page txn : ℕ) → pending ≡ all_pending history → (on_page page (of_txn txn pending) ≡ [] → ⊥) → IsPendingOn history page
+pub something_on : (history : History) (pending : List Change) (page txn : ℕ) → pending ≡ all_pending history
+    → (on_page page (of_txn txn pending) ≡ [] → ⊥) → IsPendingOn history page
 something_on history pending page txn is some =
     (txn, λ none. some (ap (λ (l : List Change). on_page page (of_txn txn l)) is ∙ sym (ap (on_page page) (pending_of_all history txn)) ∙ none))

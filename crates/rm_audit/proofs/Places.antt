@@ -10,7 +10,8 @@ in_append (first ∷ places) last place is =
     elim is [ inl same ↦ inl (inl same) | inr later ↦ elim (in_append places last place later) [ inl found ↦ inl (inr found) | inr same ↦ inr same ] ]
 
 -- what holds of each place of the prefix, and of the next, holds of each of the prefix with the next
-pub each_more : (P : Place → Type 0) (places : List Place) (i : ℕ) (other : Place) → i < length places → ((place : Place) → IsIn (take i places) place → P place) → P (get_or places i other)
+pub each_more : (P : Place → Type 0) (places : List Place) (i : ℕ) (other : Place) → i < length places
+    → ((place : Place) → IsIn (take i places) place → P place) → P (get_or places i other)
     → (place : Place) → IsIn (take (i + 1) places) place → P place
 each_more P places i other inside each here place is =
     elim (in_append (take i places) (get_or places i other) place (subst (λ (l : List Place). IsIn l place) (take_more places i other inside) is)) [

@@ -10,14 +10,16 @@ use Rattle.rm_history.proofs.Appending.{acts_of-snoc, acts_onto-append}
 use Rattle.rm_history.specs.Transactions.{HasRecord, HasChange}
 
 -- the prefix with one record more
-pub acts_more : (log : List Logged) (i : ℕ) (newest : Logged) → i < length log → newest ≡ get_or log i newest → acts_of (take (i + 1) log) ≡ act_of newest ∷ acts_of (take i log)
+pub acts_more : (log : List Logged) (i : ℕ) (newest : Logged) → i < length log → newest ≡ get_or log i newest
+    → acts_of (take (i + 1) log) ≡ act_of newest ∷ acts_of (take i log)
 acts_more log i newest inside is =
     ap acts_of (take_more log i newest inside ∙ ap (λ (x : Logged). take i log ++ x ∷ []) (sym is)) ∙ acts_of-snoc (take i log) newest
 
 -- ---- what a prefix has, the log has
 
 -- what stays as records are added, and holds of the prefix with this record, holds of the log
-along : (P : History → Type 0) → ((act : Act) (before : History) → P before → P (act ∷ before)) → (log : List Logged) (history : History) → P history → P (acts_onto history log)
+along : (P : History → Type 0) → ((act : Act) (before : History) → P before → P (act ∷ before)) → (log : List Logged) (history : History)
+    → P history → P (acts_onto history log)
 along P stays [] history holds = holds
 along P stays (oldest ∷ log) history holds = along P stays log (act_of oldest ∷ history) (stays (act_of oldest) history holds)
 
@@ -25,7 +27,8 @@ whole : (P : History → Type 0) → ((act : Act) (before : History) → P befor
     → (log : List Logged) (i : ℕ) (newest : Logged) → i < length log → newest ≡ get_or log i newest → P (act_of newest ∷ acts_of (take i log)) → P (acts_of log)
 whole P stays log i newest inside is holds =
     let prefix : P (acts_of (take (i + 1) log)) = subst P (sym (acts_more log i newest inside is)) holds in
-    let split : acts_onto (acts_of (take (i + 1) log)) (drop (i + 1) log) ≡ acts_of log = sym (acts_onto-append [] (take (i + 1) log) (drop (i + 1) log)) ∙ ap acts_of (take-append-drop (i + 1) log) in
+    let split : acts_onto (acts_of (take (i + 1) log)) (drop (i + 1) log) ≡ acts_of log =
+    sym (acts_onto-append [] (take (i + 1) log) (drop (i + 1) log)) ∙ ap acts_of (take-append-drop (i + 1) log) in
     subst P split (along P stays (drop (i + 1) log) (acts_of (take (i + 1) log)) prefix)
 
 pub log_has_change : (log : List Logged) (i : ℕ) (newest : Logged) (txn : ℕ) (rid : Rid) → i < length log → newest ≡ get_or log i newest

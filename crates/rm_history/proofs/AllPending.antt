@@ -72,7 +72,8 @@ pending_of_all (ends f ∷ before) txn = pending_of_finished txn f (pending_of b
 pending_of_all (marks m ∷ before) txn = pending_of_all before txn
 
 -- the transaction of the newest of all has it as its newest
-pub pending_of-newest : (history : History) (last : Change) (rest : List Change) → all_pending history ≡ last ∷ rest → pending_of history last.txn ≡ last ∷ of_txn last.txn rest
+pub pending_of-newest : (history : History) (last : Change) (rest : List Change) → all_pending history ≡ last ∷ rest
+    → pending_of history last.txn ≡ last ∷ of_txn last.txn rest
 pending_of-newest history last rest is = pending_of_all history last.txn ∙ ap (of_txn last.txn) is ∙ of_txn-newest last rest
 
 -- where none is pending at all, no transaction has one

@@ -29,13 +29,15 @@ next_more first other prefix batch same found = record {
 }
 
 -- a batch whose bytes go on after those of some records
-next_of : (prefix batch : Batch) (after : List ℕ) → AllByRecursion IsRecord prefix → AllByRecursion IsRecord batch → spelling_all prefix ++ after ≡ spelling_all batch
+next_of : (prefix batch : Batch) (after : List ℕ) → AllByRecursion IsRecord prefix → AllByRecursion IsRecord batch
+    → spelling_all prefix ++ after ≡ spelling_all batch
     → length (spelling_all prefix) < length (spelling_all batch) → Next prefix batch
 next_of [] [] after are batch_are same shorter = absurd (omega arith)
 next_of [] (next ∷ rest) after are batch_are same shorter = record { next = next; rest = rest; split = refl; is = batch_are.0 }
 next_of (first ∷ prefix) [] after are batch_are same shorter = absurd (omega arith)
 next_of (first ∷ prefix) (other ∷ batch) after are batch_are same shorter =
-    let whole : spelling first ++ (spelling_all prefix ++ after) ≡ spelling other ++ spelling_all batch = sym (append_assoc (spelling first) (spelling_all prefix) after) ∙ same in
+    let whole : spelling first ++ (spelling_all prefix ++ after) ≡ spelling other ++ spelling_all batch =
+    sym (append_assoc (spelling first) (spelling_all prefix) after) ∙ same in
     let parts = spellings_are_apart first other (spelling_all prefix ++ after) (spelling_all batch) are.0 batch_are.0 whole in
     let sizes : length (spelling first) ≡ length (spelling other) = ap (λ (r : LogRecord). length (spelling r)) parts.0 in
     next_more first other prefix batch parts.0
@@ -43,7 +45,8 @@ next_of (first ∷ prefix) (other ∷ batch) after are batch_are same shorter =
     (omega (arith, sizes, length-append (spelling first) (spelling_all prefix), length-append (spelling other) (spelling_all batch))))
 
 -- the bytes of a batch around that record
-spelled_around : (prefix batch : Batch) (found : Next prefix batch) → spelling_all batch ≡ spelling_all prefix ++ (spelling found.next ++ spelling_all found.rest)
+spelled_around : (prefix batch : Batch) (found : Next prefix batch)
+    → spelling_all batch ≡ spelling_all prefix ++ (spelling found.next ++ spelling_all found.rest)
 spelled_around prefix batch found = ap spelling_all found.split ∙ flat_map-append spelling prefix (found.next ∷ found.rest)
 
 found_within : (prefix batch : Batch) (found : Next prefix batch) → length (spelling_all prefix) + length (spelling found.next) ≤ length (spelling_all batch)
@@ -52,7 +55,8 @@ found_within prefix batch found =
 
 module _ (area : Bytes) where
   -- as many bytes as some that stand there
-  shows_take : (at : ℕ) (first whole : List ℕ) → Shows area at first → Shows area at whole → length first ≤ length whole → first ++ drop (length first) whole ≡ whole
+  shows_take : (at : ℕ) (first whole : List ℕ) → Shows area at first → Shows area at whole → length first ≤ length whole
+      → first ++ drop (length first) whole ≡ whole
   shows_take at first whole shown whole_shown shorter =
       let n = length first in
       let split : take n whole ++ drop n whole ≡ whole = take-append-drop n whole in
@@ -61,10 +65,12 @@ module _ (area : Bytes) where
       ap (λ (l : List ℕ). l ++ drop n whole) same ∙ split
 
   -- one length stands there
-  length_once : (gate len : ℕ) (batch : Batch) → len < 2 ^ 32 → IsBatch gate batch → Shows area (gate + 1) (to_be_bytes w32 len) → Shows area (gate + 1) (body_of batch) → len ≡ length (spelling_all batch)
+  length_once : (gate len : ℕ) (batch : Batch) → len < 2 ^ 32 → IsBatch gate batch → Shows area (gate + 1) (to_be_bytes w32 len)
+      → Shows area (gate + 1) (body_of batch) → len ≡ length (spelling_all batch)
   length_once gate len batch fits is shown body =
       let n = length (spelling_all batch) in
-      let heads : to_be_bytes w32 len ≡ to_be_bytes w32 n = shows_once (to_be_bytes w32 len) (to_be_bytes w32 n) shown (shows_front (to_be_bytes w32 n) (spelling_all batch) body) refl in
+      let heads : to_be_bytes w32 len ≡ to_be_bytes w32 n =
+      shows_once (to_be_bytes w32 len) (to_be_bytes w32 n) shown (shows_front (to_be_bytes w32 n) (spelling_all batch) body) refl in
       sym (from_be_bytes-to_be_bytes_4 len fits) ∙ ap (from_be_bytes w32) heads ∙ from_be_bytes-to_be_bytes_4 n (omega (arith, is.range.short))
 
   no_wrong_length : (gate at : ℕ) (batch : Batch) → IsBatch gate batch → Shows area (gate + 1) (body_of batch) → HasWrongLength area gate at → ⊥
@@ -76,7 +82,8 @@ module _ (area : Bytes) where
       let prefix = wrong.prefix in
       let n = length (spelling_all batch) in
       let head = to_be_bytes w32 wrong.len in
-      let same : wrong.len ≡ n = length_once gate wrong.len batch (omega (arith, wrong.range.short)) is (shows_front head (spelling_all prefix) wrong.shown) body in
+      let same : wrong.len ≡ n =
+      length_once gate wrong.len batch (omega (arith, wrong.range.short)) is (shows_front head (spelling_all prefix) wrong.shown) body in
       let begins : Shows area (gate + 1 + 4) (spelling_all prefix) = shows_back head (spelling_all prefix) wrong.shown in
       let whole : Shows area (gate + 1 + 4) (spelling_all batch) = shows_back (to_be_bytes w32 n) (spelling_all batch) body in
       let shorter : length (spelling_all prefix) < n = omega (arith, wrong.within, same) in
@@ -91,7 +98,8 @@ module _ (area : Bytes) where
       wrong.none found.next found.is fits (subst (λ (m : ℕ). Shows area m (spelling found.next)) place there)
 
   -- a wrong place after some batches, of which the log has more or fewer
-  not_after : (batches others : List Batch) (at : ℕ) → area (gate_of batches) ≡ 1 → HasWrongLength area (gate_of batches) at ⊎ HasWrongRecord area (gate_of batches) at → HasLog area others
+  not_after : (batches others : List Batch) (at : ℕ) → area (gate_of batches) ≡ 1
+      → HasWrongLength area (gate_of batches) at ⊎ HasWrongRecord area (gate_of batches) at → HasLog area others
       → (more : List Batch) → others ≡ more ++ batches → ⊥
   not_after batches others at begun wrong has [] is = has.closed (ap (λ (b : List Batch). area (gate_of b)) is ∙ begun)
   not_after batches others at begun wrong has (next ∷ more) is =

@@ -120,7 +120,8 @@ need_of-undo before u last rest page is here =
     (sym (pending_of-undo before u last rest is))
 
 -- and an undo leaves what the other transactions' undo needs
-pub need_of-undo_other : (before : History) (u : Undo) (other page : ℕ) → (u.txn ≡ other → ⊥) → need_of (undoes u ∷ before) other page ≡ need_of before other page
+pub need_of-undo_other : (before : History) (u : Undo) (other page : ℕ) → (u.txn ≡ other → ⊥)
+    → need_of (undoes u ∷ before) other page ≡ need_of before other page
 need_of-undo_other before u other page differs = ap (λ (all : List Change). need_for (on_page page all)) (pending-undo_other u before other differs)
 
 -- ---- which pages fit

@@ -97,7 +97,8 @@ net_after_change c before txn in_order same =
     let listed = pending_of before txn in
     elim (cases_eq c.txn txn) [
       | inl mine ↦
-          net_grows c before txn in_order mine ∙ ap (λ (l : List Change). c ∷ l) same ∙ sym (cond-true (eqb c.txn txn) (c ∷ listed) listed (eq-eqb c.txn txn mine))
+          net_grows c before txn in_order mine ∙ ap (λ (l : List Change). c ∷ l) same
+          ∙ sym (cond-true (eqb c.txn txn) (c ∷ listed) listed (eq-eqb c.txn txn mine))
       | inr foreign ↦
           net_stays (changes c) before txn in_order foreign ∙ same ∙ sym (cond-false (eqb c.txn txn) (c ∷ listed) listed (ne_eqb c.txn txn foreign))
     ]
@@ -129,9 +130,11 @@ pending_is_net (changes c ∷ before) in_order txn unfinished = net_after_change
 pending_is_net (undoes u ∷ before) in_order txn unfinished = net_after_undo u before txn in_order (pending_is_net before in_order.0 txn unfinished)
 pending_is_net (enters e ∷ before) in_order txn unfinished = net_stays (enters e) before txn in_order tt ∙ pending_is_net before in_order.0 txn unfinished
 pending_is_net (commits f ∷ before) in_order txn unfinished =
-    net_stays (commits f) before txn in_order tt ∙ pending_is_net before in_order.0 txn (λ done. unfinished (inr done)) ∙ sym (pending_stays f before txn unfinished)
+    net_stays (commits f) before txn in_order tt ∙ pending_is_net before in_order.0 txn (λ done. unfinished (inr done))
+    ∙ sym (pending_stays f before txn unfinished)
 pending_is_net (ends f ∷ before) in_order txn unfinished =
-    net_stays (ends f) before txn in_order tt ∙ pending_is_net before in_order.0 txn (λ done. unfinished (inr done)) ∙ sym (pending_stays f before txn unfinished)
+    net_stays (ends f) before txn in_order tt ∙ pending_is_net before in_order.0 txn (λ done. unfinished (inr done))
+    ∙ sym (pending_stays f before txn unfinished)
 pending_is_net (marks m ∷ before) in_order txn unfinished = net_stays (marks m) before txn in_order tt ∙ pending_is_net before in_order.0 txn unfinished
 
 -- the two ways of saying what is pending are one

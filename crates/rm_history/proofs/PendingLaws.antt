@@ -33,7 +33,8 @@ changed_finish mine pending rid =
     cond_both mine [] pending (λ l. IsChanged l rid → IsChanged pending rid) (λ is changed. absurd changed) (λ is changed. changed)
 
 -- what is pending after a change is this change, or it was pending before
-changed_now : (c : Change) (txn : ℕ) (pending : List Change) (rid : Rid) → c.txn ≡ txn → IsChanged (c ∷ pending) rid → ((c.txn ≡ txn) × (c.rid ≡ rid)) ⊎ IsChanged pending rid
+changed_now : (c : Change) (txn : ℕ) (pending : List Change) (rid : Rid) → c.txn ≡ txn → IsChanged (c ∷ pending) rid
+    → ((c.txn ≡ txn) × (c.rid ≡ rid)) ⊎ IsChanged pending rid
 changed_now c txn pending rid mine (inl now) = inl (mine, now)
 changed_now c txn pending rid mine (inr earlier) = inr earlier
 
@@ -108,7 +109,8 @@ changed_has_change history txn rid =
     history tt txn
 
 -- where a change may come, no other transaction has one pending on its row id
-pub nobody_else : (before : History) (c : Change) → IsInOrder before → MayChange before c → (other : ℕ) → IsChanged (pending_of before other) c.rid → c.txn ≡ other
+pub nobody_else : (before : History) (c : Change) → IsInOrder before → MayChange before c → (other : ℕ)
+    → IsChanged (pending_of before other) c.rid → c.txn ≡ other
 nobody_else before c ordered may other changed = elim (cases_eq c.txn other) [
   | inl same ↦ same
   | inr different ↦
@@ -116,7 +118,8 @@ nobody_else before c ordered may other changed = elim (cases_eq c.txn other) [
       absurd (changed_unfinished before ordered other c.rid changed finished)
 ]
 
-nobody_else_at : (before : History) (c : Change) (rid : Rid) → IsInOrder before → MayChange before c → c.rid ≡ rid → (other : ℕ) → IsChanged (pending_of before other) rid → c.txn ≡ other
+nobody_else_at : (before : History) (c : Change) (rid : Rid) → IsInOrder before → MayChange before c → c.rid ≡ rid → (other : ℕ)
+    → IsChanged (pending_of before other) rid → c.txn ≡ other
 nobody_else_at before c rid ordered may here other changed =
     nobody_else before c ordered may other (subst (λ (r : Rid). IsChanged (pending_of before other) r) (sym here) changed)
 
@@ -136,19 +139,24 @@ pending_is_of_one (changes c ∷ before) ordered rid txn other changed other_cha
       ]
     ]
 pending_is_of_one (undoes u ∷ before) ordered rid txn other changed other_changed =
-    pending_is_of_one before ordered.0 rid txn other (changed_undo (eqb u.txn txn) (pending_of before txn) rid changed) (changed_undo (eqb u.txn other) (pending_of before other) rid other_changed)
+    pending_is_of_one before ordered.0 rid txn other (changed_undo (eqb u.txn txn) (pending_of before txn) rid changed)
+    (changed_undo (eqb u.txn other) (pending_of before other) rid other_changed)
 pending_is_of_one (enters e ∷ before) ordered rid txn other changed other_changed = pending_is_of_one before ordered.0 rid txn other changed other_changed
 pending_is_of_one (commits f ∷ before) ordered rid txn other changed other_changed =
-    pending_is_of_one before ordered.0 rid txn other (changed_finish (eqb f.txn txn) (pending_of before txn) rid changed) (changed_finish (eqb f.txn other) (pending_of before other) rid other_changed)
+    pending_is_of_one before ordered.0 rid txn other (changed_finish (eqb f.txn txn) (pending_of before txn) rid changed)
+    (changed_finish (eqb f.txn other) (pending_of before other) rid other_changed)
 pending_is_of_one (ends f ∷ before) ordered rid txn other changed other_changed =
-    pending_is_of_one before ordered.0 rid txn other (changed_finish (eqb f.txn txn) (pending_of before txn) rid changed) (changed_finish (eqb f.txn other) (pending_of before other) rid other_changed)
+    pending_is_of_one before ordered.0 rid txn other (changed_finish (eqb f.txn txn) (pending_of before txn) rid changed)
+    (changed_finish (eqb f.txn other) (pending_of before other) rid other_changed)
 pending_is_of_one (marks m ∷ before) ordered rid txn other changed other_changed = pending_is_of_one before ordered.0 rid txn other changed other_changed
 
 -- a row id that has a change record is inside of its page's directory
 pub changed_inside : (history : History) (txn : ℕ) (rid : Rid) → HasChange history txn rid → rid.slot < length (page_of history rid.page)
 changed_inside [] txn rid had = absurd had
-changed_inside (changes c ∷ before) txn rid (inl now) = subst (λ (r : Rid). r.slot < length (page_of (changes c ∷ before) r.page)) now.1 (inside-put (page_of before) c.rid c.after)
-changed_inside (changes c ∷ before) txn rid (inr earlier) = omega (arith, changed_inside before txn rid earlier, length-put (page_of before) c.rid c.after rid.page)
+changed_inside (changes c ∷ before) txn rid (inl now) =
+    subst (λ (r : Rid). r.slot < length (page_of (changes c ∷ before) r.page)) now.1 (inside-put (page_of before) c.rid c.after)
+changed_inside (changes c ∷ before) txn rid (inr earlier) =
+    omega (arith, changed_inside before txn rid earlier, length-put (page_of before) c.rid c.after rid.page)
 changed_inside (undoes u ∷ before) txn rid had = omega (arith, changed_inside before txn rid had, length-put (page_of before) u.rid u.back rid.page)
 changed_inside (enters e ∷ before) txn rid had = changed_inside before txn rid had
 changed_inside (commits f ∷ before) txn rid had = changed_inside before txn rid had

@@ -73,7 +73,8 @@ slot_at-put pages rid slot =
     ∙ set_slot_at (pages rid.page) rid.slot slot
 
 -- each other row id holds what it held
-pub slot_at-put_other : (pages : ℕ → List Slot) (rid place : Rid) (slot : Slot) → (rid ≡ place → ⊥) → slot_at (put pages rid slot place.page) place.slot ≡ slot_at (pages place.page) place.slot
+pub slot_at-put_other : (pages : ℕ → List Slot) (rid place : Rid) (slot : Slot) → (rid ≡ place → ⊥)
+    → slot_at (put pages rid slot place.page) place.slot ≡ slot_at (pages place.page) place.slot
 slot_at-put_other pages rid place slot other = elim (cases_eq rid.page place.page) [
   | inl same ↦
       ap (λ (slots : List Slot). slot_at slots place.slot) (if_equal rid.page place.page (set_slot (pages place.page) rid.slot slot) (pages place.page) same)

@@ -16,10 +16,13 @@ pub spelling_long : (next : LogRecord) → 0 < length (spelling next)
 spelling_long (Insert txn under rid need row) = omega arith
 spelling_long other = omega arith
 
-pub records_once : (records others : List LogRecord) → AllByRecursion IsRecord records → AllByRecursion IsRecord others → spelling_all records ≡ spelling_all others → records ≡ others
+pub records_once : (records others : List LogRecord) → AllByRecursion IsRecord records → AllByRecursion IsRecord others
+    → spelling_all records ≡ spelling_all others → records ≡ others
 records_once [] [] are others_are same = refl
-records_once [] (other ∷ others) are others_are same = absurd (omega (arith, ap length same, length-append (spelling other) (spelling_all others), spelling_long other))
-records_once (next ∷ records) [] are others_are same = absurd (omega (arith, ap length same, length-append (spelling next) (spelling_all records), spelling_long next))
+records_once [] (other ∷ others) are others_are same =
+    absurd (omega (arith, ap length same, length-append (spelling other) (spelling_all others), spelling_long other))
+records_once (next ∷ records) [] are others_are same =
+    absurd (omega (arith, ap length same, length-append (spelling next) (spelling_all records), spelling_long next))
 records_once (next ∷ records) (other ∷ others) are others_are same =
     let first = spellings_are_apart next other (spelling_all records) (spelling_all others) are.0 others_are.0 same in
     let rest = records_once records others are.1 others_are.1 first.1 in
@@ -29,16 +32,20 @@ length-four : (n : ℕ) → length (to_be_bytes w32 n) ≡ 4
 length-four n = refl
 
 module _ (area : Bytes) where
-  pub batch_once : (gate : ℕ) (batch other : Batch) → IsBatch gate batch → IsBatch gate other → Shows area (gate + 1) (body_of batch) → Shows area (gate + 1) (body_of other) → batch ≡ other
+  pub batch_once : (gate : ℕ) (batch other : Batch) → IsBatch gate batch → IsBatch gate other → Shows area (gate + 1) (body_of batch)
+      → Shows area (gate + 1) (body_of other) → batch ≡ other
   batch_once gate batch other is other_is shown other_shown =
       let n = length (spelling_all batch) in
       let m = length (spelling_all other) in
       let heads : to_be_bytes w32 n ≡ to_be_bytes w32 m =
-      shows_once (to_be_bytes w32 n) (to_be_bytes w32 m) (shows_front (to_be_bytes w32 n) (spelling_all batch) shown) (shows_front (to_be_bytes w32 m) (spelling_all other) other_shown) refl in
+      shows_once (to_be_bytes w32 n) (to_be_bytes w32 m) (shows_front (to_be_bytes w32 n) (spelling_all batch) shown)
+      (shows_front (to_be_bytes w32 m) (spelling_all other) other_shown) refl in
       let lengths : n ≡ m =
-      sym (from_be_bytes-to_be_bytes_4 n (omega (arith, is.range.short))) ∙ ap (from_be_bytes w32) heads ∙ from_be_bytes-to_be_bytes_4 m (omega (arith, other_is.range.short)) in
+      sym (from_be_bytes-to_be_bytes_4 n (omega (arith, is.range.short))) ∙ ap (from_be_bytes w32) heads
+      ∙ from_be_bytes-to_be_bytes_4 m (omega (arith, other_is.range.short)) in
       let spelled : spelling_all batch ≡ spelling_all other =
-      shows_once (spelling_all batch) (spelling_all other) (shows_back (to_be_bytes w32 n) (spelling_all batch) shown) (shows_back (to_be_bytes w32 m) (spelling_all other) other_shown) lengths in
+      shows_once (spelling_all batch) (spelling_all other) (shows_back (to_be_bytes w32 n) (spelling_all batch) shown)
+      (shows_back (to_be_bytes w32 m) (spelling_all other) other_shown) lengths in
       records_once batch other is.records other_is.records spelled
 
   -- what stands without the newest batches
@@ -55,7 +62,8 @@ module _ (area : Bytes) where
   abbrev pub Overlap : List Batch → List Batch → Type 0
   Overlap batches others = ((more : List Batch) × (batches ≡ more ++ others)) ⊎ ((more : List Batch) × (others ≡ more ++ batches))
 
-  overlap_more : (newest : Batch) (batches others more : List Batch) → Stands area (newest ∷ batches) → Stands area others → others ≡ more ++ batches → Overlap (newest ∷ batches) others
+  overlap_more : (newest : Batch) (batches others more : List Batch) → Stands area (newest ∷ batches) → Stands area others
+      → others ≡ more ++ batches → Overlap (newest ∷ batches) others
   overlap_more newest batches others [] stands others_stand is = inl (newest ∷ [], ap (λ (l : List Batch). newest ∷ l) (sym is))
   overlap_more newest batches others (next ∷ more) stands others_stand is =
       let parts = last_of next more in

@@ -84,11 +84,17 @@ others_fit f g one bound bytes same fits =
 -- a transaction whose id is above all that have records has nothing pending
 pending_past : (history : History) (txn : ℕ) → greatest_txn history < txn → pending_of history txn ≡ []
 pending_past [] txn past = refl
-pending_past (changes c ∷ before) txn past = if_different c.txn txn (c ∷ pending_of before txn) (pending_of before txn) (λ same. omega (arith, same, past)) ∙ pending_past before txn (omega (arith, past))
-pending_past (undoes u ∷ before) txn past = if_different u.txn txn (older (pending_of before txn)) (pending_of before txn) (λ same. omega (arith, same, past)) ∙ pending_past before txn (omega (arith, past))
+pending_past (changes c ∷ before) txn past =
+    if_different c.txn txn (c ∷ pending_of before txn) (pending_of before txn) (λ same. omega (arith, same, past))
+    ∙ pending_past before txn (omega (arith, past))
+pending_past (undoes u ∷ before) txn past =
+    if_different u.txn txn (older (pending_of before txn)) (pending_of before txn) (λ same. omega (arith, same, past))
+    ∙ pending_past before txn (omega (arith, past))
 pending_past (enters e ∷ before) txn past = pending_past before txn (omega (arith, past))
-pending_past (commits f ∷ before) txn past = if_different f.txn txn [] (pending_of before txn) (λ same. omega (arith, same, past)) ∙ pending_past before txn (omega (arith, past))
-pending_past (ends f ∷ before) txn past = if_different f.txn txn [] (pending_of before txn) (λ same. omega (arith, same, past)) ∙ pending_past before txn (omega (arith, past))
+pending_past (commits f ∷ before) txn past =
+    if_different f.txn txn [] (pending_of before txn) (λ same. omega (arith, same, past)) ∙ pending_past before txn (omega (arith, past))
+pending_past (ends f ∷ before) txn past =
+    if_different f.txn txn [] (pending_of before txn) (λ same. omega (arith, same, past)) ∙ pending_past before txn (omega (arith, past))
 pending_past (marks m ∷ before) txn past = pending_past before txn past
 
 -- so it needs nothing
@@ -122,7 +128,8 @@ pages_fit before c fits room page = elim (cases_eq c.rid.page page) [
 ]
 
 -- and its own has where each has
-page_fits : (before : History) (c : Change) → Fits (changes c ∷ before) → bytes_with before c + others_need before c.txn c.rid.page + need_with before c ≤ CAPACITY
+page_fits : (before : History) (c : Change) → Fits (changes c ∷ before)
+    → bytes_with before c + others_need before c.txn c.rid.page + need_with before c ≤ CAPACITY
 page_fits before c fits =
     others_fit (λ k. need_of before k c.rid.page) (λ k. need_of (changes c ∷ before) k c.rid.page) c.txn (greatest_txn before + 1) (bytes_with before c)
     (others_as_before before c c.rid.page) (λ n. rw (eq-eqb c.rid.page c.rid.page refl) at (fits c.rid.page n))
@@ -137,21 +144,24 @@ inside_where_row slots number row holds = elim (cases_lt number (length slots)) 
 ]
 
 -- a row in a vacant slot adds its bytes and those of the directory
-bytes_of_row : (before : History) (c : Change) (row : List ℕ) → slot_at (page_of before c.rid.page) c.rid.slot ≡ c.before → c.before ≡ Vacant → c.after ≡ Row row
+bytes_of_row : (before : History) (c : Change) (row : List ℕ) → slot_at (page_of before c.rid.page) c.rid.slot ≡ c.before
+    → c.before ≡ Vacant → c.after ≡ Row row
     → bytes_with before c + need_with before c
     ≡ used (page_of before c.rid.page) + growth_for (length (page_of before c.rid.page)) c.rid.slot + max (length row) (need_of before c.txn c.rid.page)
 bytes_of_row before c row held was now =
     omega (arith, ap row_length held, ap row_length was, ap row_length now, used-set_slot (page_of before c.rid.page) c.rid.slot c.after, need_of-change before c c.rid.page refl)
 
 -- a row in place of another adds the bytes by which it is longer
-bytes_of_growth : (before : History) (c : Change) (old new : List ℕ) → slot_at (page_of before c.rid.page) c.rid.slot ≡ c.before → c.before ≡ Row old → c.after ≡ Row new
+bytes_of_growth : (before : History) (c : Change) (old new : List ℕ) → slot_at (page_of before c.rid.page) c.rid.slot ≡ c.before
+    → c.before ≡ Row old → c.after ≡ Row new
     → bytes_with before c + need_with before c ≡ used (page_of before c.rid.page) + max (length new - length old) (need_of before c.txn c.rid.page)
 bytes_of_growth before c old new held was now =
     let inside : c.rid.slot < length (page_of before c.rid.page) = inside_where_row (page_of before c.rid.page) c.rid.slot old (held ∙ was) in
     omega (arith, ap row_length held, ap row_length was, ap row_length now, used-inside (page_of before c.rid.page) c.rid.slot c.after inside, need_of-change before c c.rid.page refl)
 
 -- and no row in its place adds none
-bytes_of_delete : (before : History) (c : Change) (old : List ℕ) → slot_at (page_of before c.rid.page) c.rid.slot ≡ c.before → c.before ≡ Row old → c.after ≡ Vacant
+bytes_of_delete : (before : History) (c : Change) (old : List ℕ) → slot_at (page_of before c.rid.page) c.rid.slot ≡ c.before
+    → c.before ≡ Row old → c.after ≡ Vacant
     → bytes_with before c + need_with before c ≡ used (page_of before c.rid.page) + need_of before c.txn c.rid.page
 bytes_of_delete before c old held was now =
     let inside : c.rid.slot < length (page_of before c.rid.page) = inside_where_row (page_of before c.rid.page) c.rid.slot old (held ∙ was) in
@@ -162,7 +172,8 @@ bytes_of_delete before c old held was now =
 -- before the change its page has room for its transaction's need beside the others'
 room_before : (before : History) (c : Change) → Fits before → used (page_of before c.rid.page) + others_need before c.txn c.rid.page + need_of before c.txn c.rid.page ≤ CAPACITY
 room_before before c fits =
-    others_fit (λ k. need_of before k c.rid.page) (λ k. need_of before k c.rid.page) c.txn (greatest_txn before + 1) (used (page_of before c.rid.page)) (λ k other. refl) (fits c.rid.page)
+    others_fit (λ k. need_of before k c.rid.page) (λ k. need_of before k c.rid.page) c.txn (greatest_txn before + 1)
+    (used (page_of before c.rid.page)) (λ k other. refl) (fits c.rid.page)
 
 -- what fits is what leaves each page room
 pub fitting_is_room : FittingIsRoom

@@ -43,7 +43,8 @@ record HasEntry (format : Format) (before : History) (last : Change) (new : Hist
   entered : entry_of new last.rid.page ≡ category_after format new last
 
 -- so settling gives that history: the record that enters it may come, and keeps the inventory
-entered_by : (format : Format) (before settled : History) (last : Change) (rest : List Change) → IsLegal format before → (IsFinished before last.txn → ⊥) → pending_of before last.txn ≡ last ∷ rest
+entered_by : (format : Format) (before settled : History) (last : Change) (rest : List Change) → IsLegal format before
+    → (IsFinished before last.txn → ⊥) → pending_of before last.txn ≡ last ∷ rest
     → Settles format before last settled → HasEntry format before last settled
 entered_by format before settled last rest legal unfinished is (inl stays) =
     subst (λ (h : History). HasEntry format before last h) (sym stays.1)
@@ -75,7 +76,8 @@ record Stands (history : History) (last : Change) : Type 0 where
   holds : slot_at (page_of history last.rid.page) last.rid.slot ≡ last.after
 
 -- on the change's page the undo gives up no more room than is kept for it
-room_for_undo : (before : History) (last : Change) (rest : List Change) (lsn page : ℕ) → pending_of before last.txn ≡ last ∷ rest → Stands before last → last.rid.page ≡ page
+room_for_undo : (before : History) (last : Change) (rest : List Change) (lsn page : ℕ) → pending_of before last.txn ≡ last ∷ rest
+    → Stands before last → last.rid.page ≡ page
     → used (set_slot (page_of before page) last.rid.slot last.before) + need_of (undoes (undo_for lsn last) ∷ before) last.txn page
     ≤ used (page_of before page) + need_of before last.txn page
 room_for_undo before last rest lsn page is stands here =
@@ -100,7 +102,8 @@ undo_fits before last rest lsn is stands fits page =
     ]
 
 -- the compensation may come
-compensation_comes : (before : History) (last : Change) (rest : List Change) (lsn : ℕ) → (IsFinished before last.txn → ⊥) → pending_of before last.txn ≡ last ∷ rest
+compensation_comes : (before : History) (last : Change) (rest : List Change) (lsn : ℕ) → (IsFinished before last.txn → ⊥)
+    → pending_of before last.txn ≡ last ∷ rest
     → MayUndo before (undo_for lsn last)
 compensation_comes before last rest lsn unfinished is = record {
   unfinished = unfinished;
@@ -115,11 +118,14 @@ compensation_comes before last rest lsn unfinished is = record {
 -- ---- the theorem
 
 -- in a history in order each transaction's newest pending change stands
-newest_stands : (history : History) → IsInOrder history → (txn : ℕ) (last : Change) (rest : List Change) → pending_of history txn ≡ last ∷ rest → Stands history last
-newest_stands history ordered txn last rest is = record { inside = last_is_inside history txn last rest is; holds = last_is_held history ordered txn last rest is }
+newest_stands : (history : History) → IsInOrder history → (txn : ℕ) (last : Change) (rest : List Change)
+    → pending_of history txn ≡ last ∷ rest → Stands history last
+newest_stands history ordered txn last rest is =
+    record { inside = last_is_inside history txn last rest is; holds = last_is_held history ordered txn last rest is }
 
 -- so its compensation may come after the history
-undo_follows : (before : History) (last : Change) (rest : List Change) (lsn : ℕ) → IsInOrder before → (IsFinished before last.txn → ⊥) → pending_of before last.txn ≡ last ∷ rest
+undo_follows : (before : History) (last : Change) (rest : List Change) (lsn : ℕ) → IsInOrder before → (IsFinished before last.txn → ⊥)
+    → pending_of before last.txn ≡ last ∷ rest
     → newest_lsn before < lsn → Follows before (undoes (undo_for lsn last))
 undo_follows before last rest lsn ordered unfinished is above = record {
   above = above;
@@ -128,7 +134,8 @@ undo_follows before last rest lsn ordered unfinished is above = record {
 }
 
 -- undone in a history in which its page has the right entry
-undone_by : (format : Format) (before : History) (last : Change) (rest : List Change) (lsn : ℕ) → IsLegal format before → (IsFinished before last.txn → ⊥) → pending_of before last.txn ≡ last ∷ rest
+undone_by : (format : Format) (before : History) (last : Change) (rest : List Change) (lsn : ℕ) → IsLegal format before
+    → (IsFinished before last.txn → ⊥) → pending_of before last.txn ≡ last ∷ rest
     → entry_of before last.rid.page ≡ category_after format before last → newest_lsn before < lsn
     → IsUndone format before last.txn rest (undoes (undo_for lsn last) ∷ before)
 undone_by format before last rest lsn legal unfinished is entered above = record {
@@ -137,7 +144,8 @@ undone_by format before last rest lsn legal unfinished is entered above = record
     undo_follows before last rest lsn (legal_is_in_order format before legal) unfinished is above,
     record {
       entered = entered;
-      follow = entries_follow_undo format before (undo_for lsn last) (compensation_comes before last rest lsn unfinished is) entered (entries_follow format before legal);
+      follow = entries_follow_undo format before (undo_for lsn last) (compensation_comes before last rest lsn unfinished is) entered
+          (entries_follow format before legal);
     },
   );
   pending = pending_of-undo before (undo_for lsn last) last rest is;
@@ -147,7 +155,8 @@ undone_by format before last rest lsn legal unfinished is entered above = record
 }
 
 -- a transaction's last pending change, undone with the entry of its page before it
-undone_mine : (format : Format) (before new : History) (last : Change) (rest : List Change) → IsLegal format before → (IsFinished before last.txn → ⊥) → pending_of before last.txn ≡ last ∷ rest
+undone_mine : (format : Format) (before new : History) (last : Change) (rest : List Change) → IsLegal format before
+    → (IsFinished before last.txn → ⊥) → pending_of before last.txn ≡ last ∷ rest
     → Undone format before last new → IsUndone format before last.txn rest new
 undone_mine format before new last rest legal unfinished is undone =
     let mid : History = undone.settled in

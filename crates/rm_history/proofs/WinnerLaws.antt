@@ -74,7 +74,8 @@ finished_is_foreign (undoes u) before txn may done = λ same. may.unfinished (su
 finished_is_foreign other before txn may done = tt
 
 -- so its net changes stay
-finished_net_stays : (act : Act) (before : History) (txn : ℕ) → IsInOrder (act ∷ before) → IsFinished before txn → net (reverse (act ∷ before)) txn ≡ net (reverse before) txn
+finished_net_stays : (act : Act) (before : History) (txn : ℕ) → IsInOrder (act ∷ before) → IsFinished before txn
+    → net (reverse (act ∷ before)) txn ≡ net (reverse before) txn
 finished_net_stays act before txn in_order done =
     net_in_order (act ∷ before) txn
     ∙ ap reverse (net_stays act before txn in_order (finished_is_foreign act before txn in_order.1.may_come done))

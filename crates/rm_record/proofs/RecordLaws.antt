@@ -57,7 +57,9 @@ update_parts_are = both_is change_is (both_is row_is row_is)
 
 update_takes : Kind 3 update_fields
 unfolding update_fields
-update_takes = kind_of 3 (λ (p : Change × (List ℕ × List ℕ)). log.Update p.0.txn p.0.under p.0.rid p.0.need p.1.0 p.1.1) update_parts_are (λ p. refl) (λ p has. has)
+update_takes =
+    kind_of 3 (λ (p : Change × (List ℕ × List ℕ)). log.Update p.0.txn p.0.under p.0.rid p.0.need p.1.0 p.1.1) update_parts_are (λ p. refl)
+    (λ p has. has)
 
 compensate_parts_are : IsField compensate_parts (λ p. to_be_bytes w32 p.0.0 ++ (to_be_bytes w64 p.1.0.0 ++ (to_be_bytes w64 p.1.1.0.0 ++ (rid_bytes p.1.1.1.0 ++ slot_bytes p.1.1.1.1))))
     (λ p. IsTxn p.0 × ((p.1.0.0 < 2 ^ 64) × ((p.1.1.0.0 < 2 ^ 64) × (IsRid p.1.1.1.0 × IsSlot p.1.1.1.1))))
@@ -75,7 +77,8 @@ inventory_parts_are = both_is txn_is (both_is page_is category_is)
 inventory_takes : Kind 5 inventory_fields
 unfolding inventory_fields
 inventory_takes =
-    kind_of 5 (λ (p : TxnId × (ℕ × ℕ)). log.Inventory p.0 p.1.0 p.1.1) inventory_parts_are (λ p. refl) (λ p has. record { by = has.0; page_in = has.1.0; category_in = has.1.1 })
+    kind_of 5 (λ (p : TxnId × (ℕ × ℕ)). log.Inventory p.0 p.1.0 p.1.1) inventory_parts_are (λ p. refl)
+    (λ p has. record { by = has.0; page_in = has.1.0; category_in = has.1.1 })
 
 commit_takes : Kind 6 commit_fields
 unfolding commit_fields
@@ -99,7 +102,8 @@ checkpoint_takes =
 -- ---- any kind
 
 -- the kind, or what is read of the others
-first_kind : (expected kind : ℕ) (fields : Reads LogRecord) (others : Option (LogRecord × List ℕ)) (bytes : List ℕ) (x : LogRecord × List ℕ) → AreBytes bytes → Kind expected fields
+first_kind : (expected kind : ℕ) (fields : Reads LogRecord) (others : Option (LogRecord × List ℕ)) (bytes : List ℕ) (x : LogRecord × List ℕ)
+    → AreBytes bytes → Kind expected fields
     → (others ≡ Some x → Takes (kind ∷ bytes) (spelling x.0) x.1 × IsRecord x.0) → cond (eqb kind expected) (fields bytes) others ≡ Some x
     → Takes (kind ∷ bytes) (spelling x.0) x.1 × IsRecord x.0
 first_kind expected kind fields others bytes x fits here other e =

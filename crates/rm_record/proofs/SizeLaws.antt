@@ -22,7 +22,8 @@ pub length-checkpoint : (next : ℕ) (losers pages blocks : List Place)
 length-checkpoint next losers pages blocks =
     omega (arith, length-append (places_bytes losers) (places_bytes pages ++ places_bytes blocks), length-append (places_bytes pages) (places_bytes blocks))
 
-pub checkpoint_short : (next : ℕ) (losers pages blocks : List Place) → IsCheckpoint next losers pages blocks → length (spelling (log.Checkpoint next losers pages blocks)) ≤ MAX_RECORD
+pub checkpoint_short : (next : ℕ) (losers pages blocks : List Place) → IsCheckpoint next losers pages blocks
+    → length (spelling (log.Checkpoint next losers pages blocks)) ≤ MAX_RECORD
 checkpoint_short next losers pages blocks is =
     omega (
       arith,

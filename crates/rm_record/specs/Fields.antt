@@ -97,7 +97,9 @@ need_field bytes = number_up_to w16 CAPACITY bytes
 
 -- what each change begins with
 unfoldable pub change_field : Reads Change
-change_field bytes = made (λ (txn, (under, (rid, need))). record { txn = txn; under = under; rid = rid; need = need }) (both txn_field (both lsn_field (both rid_field need_field))) bytes
+change_field bytes =
+    made (λ (txn, (under, (rid, need))). record { txn = txn; under = under; rid = rid; need = need })
+    (both txn_field (both lsn_field (both rid_field need_field))) bytes
 
 -- a row
 unfoldable pub row_field : Reads (List ℕ)

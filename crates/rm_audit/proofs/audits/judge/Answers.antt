@@ -36,7 +36,8 @@ returns-then-not-branch-2 c =
     (search (rules, c.in_ok-has_room.ensures (acts_of c.args.before.now) c.requires.after)) in
     let entered : IsEntered c.args.format (acts_of c.args.before.now) (act_of c.args.last.now) = rw c.in_default-2.is at (c.in_ok-why-2.ensures may) in
     let not : EntriesFollow c.args.format (acts_of c.args.log.now) → ⊥ = search (rules, c.in_ok-has_followed.ensures c.requires.after) in
-    entry_behind_first c.args.format (act_of c.args.last.now) (acts_of c.args.before.now) (above_is c.args.before.now c.args.last.now (search rules)) may fits entered
+    entry_behind_first c.args.format (act_of c.args.last.now) (acts_of c.args.before.now)
+    (above_is c.args.before.now c.args.last.now (search rules)) may fits entered
     (λ follow. not (subst (EntriesFollow c.args.format) (sym c.requires.after) follow))
 
 pub returns : goal.returns

@@ -11,7 +11,8 @@ use Rattle.rm_audit.proofs.needs.needs_fit.Goals as goal
 
 -- the room goes down by what a transaction needs, as the sum of the others' needs does
 room_step : (first now next : List Change) (page txn room need start n : ℕ) → txn < n → need ≡ need_in now page txn → need ≤ room → next ≡ without now txn
-    → sum_below (need_in first page) n + room ≡ sum_below (need_in now page) n + start → sum_below (need_in first page) n + (room - need) ≡ sum_below (need_in next page) n + start
+    → sum_below (need_in first page) n + room ≡ sum_below (need_in now page) n + start
+    → sum_below (need_in first page) n + (room - need) ≡ sum_below (need_in next page) n + start
 room_step first now next page txn room need start n below is within left so_far =
     omega (arith, sum_below-without now page txn n below, is, within, so_far, ap (λ (l : List Change). sum_below (need_in l page) n) left)
 
@@ -22,7 +23,8 @@ too_much first now page txn room need start n below is above so_far =
     omega (arith, sum_below-without now page txn n below, is, above, so_far)
 
 -- no needs are left
-none_left : (first now : List Change) (page room start n : ℕ) → now ≡ [] → sum_below (need_in first page) n + room ≡ sum_below (need_in now page) n + start → sum_below (need_in first page) n ≤ start
+none_left : (first now : List Change) (page room start n : ℕ) → now ≡ []
+    → sum_below (need_in first page) n + room ≡ sum_below (need_in now page) n + start → sum_below (need_in first page) n ≤ start
 none_left first now page room start n none so_far =
     omega (arith, so_far, ap (λ (l : List Change). sum_below (need_in l page) n) none ∙ sum_below-zero n)
 
@@ -46,7 +48,8 @@ pub loop-txn-preserved : goal.loop-txn-preserved
 loop-txn-preserved c =
     let now : List Change = reverse c.loop-txn.left.items in
     let is : c.need_among-need.result ≡ need_in now c.args.page c.in-Some.txn.0 = rw c.deref-in-Some.ensures.value at c.need_among-need.ensures in
-    λ n enough. room_step (reverse c.args.left.items) now (reverse c.remove_of.new.pending.items) c.args.page c.in-Some.txn.0 c.loop-txn.room c.need_among-need.result c.args.room n
+    λ n enough. room_step (reverse c.args.left.items) now
+    (reverse c.remove_of.new.pending.items) c.args.page c.in-Some.txn.0 c.loop-txn.room c.need_among-need.result c.args.room n
     (omega (arith, enough)) is (omega arith) c.remove_of.ensures (c.loop-txn.invariant n enough)
 
 pub returns : goal.returns

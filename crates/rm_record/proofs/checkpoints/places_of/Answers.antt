@@ -7,7 +7,8 @@ pub loop-place-init : goal.loop-place-init
 unfolding places_field
 loop-place-init c =
     rw c.new-places.ensures record {
-      reads = let all : c.in_ok-count.count - 0 ≡ c.in_ok-count.count = omega arith in rw (c.in_ok-count.ensures, all, c.from-least.ensures) (with_more_none (entries_field c.in_ok-count.count c.args.low c.args.high c.in_ok-count.rest.now));
+      reads = let all : c.in_ok-count.count - 0 ≡ c.in_ok-count.count = omega arith in rw (c.in_ok-count.ensures, all, c.from-least.ensures)
+          (with_more_none (entries_field c.in_ok-count.count c.args.low c.args.high c.in_ok-count.rest.now));
       above = omega arith;
       count_is = refl;
     }
