@@ -31,7 +31,13 @@ pub back_first : (format : Format) (before : History) (u : Undo) (last : Change)
     → u.undone ≡ last.lsn → u.rid ≡ last.rid → u.next ≡ last.under → (u.back ≡ last.before → ⊥)
     → IsFirstBroken format (coming_of (undoes u)) before (undoes u) why.Back
 back_first format before u last unfinished is undone rid next other =
-    inr (unfinished, inr (undone_met before u last is undone, inr (rid_met before u last is rid, inr (next_met before u last is next, inl (refl, (last, is, other))))))
+    inr (
+      unfinished,
+      inr (
+        undone_met before u last is undone,
+        inr (rid_met before u last is rid, inr (next_met before u last is next, inl (refl, (last, is, other)))),
+      ),
+    )
 
 -- ---- any record
 
@@ -46,7 +52,11 @@ coming_first format act before broken above first =
 after_first : (format : Format) (act : Act) (before : History) (broken : Illegal) → newest_lsn before < lsn_of act → MayCome before act
     → IsFirstBroken format (why.NoRoom ∷ entering_of act ++ why.EntryBehind ∷ []) before act broken → IsFirstBroken format (conditions_of act) before act broken
 after_first format act before broken above may first =
-    inr (λ no. no above, first_after format (coming_of act) (why.NoRoom ∷ entering_of act ++ why.EntryBehind ∷ []) before act broken (may_breaks_none format act before may) first)
+    inr (
+      λ no. no above,
+      first_after format (coming_of act) (why.NoRoom ∷ entering_of act ++ why.EntryBehind ∷ []) before act broken
+          (may_breaks_none format act before may) first,
+    )
 
 -- the room, where the record may come
 pub room_first : (format : Format) (act : Act) (before : History) → newest_lsn before < lsn_of act → MayCome before act → (Fits (act ∷ before) → ⊥)
@@ -66,4 +76,8 @@ pub entry_behind_first : (format : Format) (act : Act) (before : History) → ne
     → (EntriesFollow format (act ∷ before) → ⊥) → IsFirstBroken format (conditions_of act) before act why.EntryBehind
 entry_behind_first format act before above may fits entered not =
     after_first format act before why.EntryBehind above may
-    (inr (λ no. no fits, first_after format (entering_of act) (why.EntryBehind ∷ []) before act why.EntryBehind (entered_breaks_none format act before entered) (inl (refl, not))))
+    (inr (
+      λ no. no fits,
+      first_after format (entering_of act) (why.EntryBehind ∷ []) before act why.EntryBehind
+          (entered_breaks_none format act before entered) (inl (refl, not)),
+    ))

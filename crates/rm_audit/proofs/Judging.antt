@@ -1,5 +1,6 @@
 -- What an audit looks at after a record decides whether there is room on all pages, and whether the inventory follows.
-use Rattle.std.proofs.Common.{◌≡◌, ℕ, ◌+◌, ◌-◌, ◌<◌, Bool, true, false, IsTrue, ◌↔◌, MatchBool, List, ◌∷◌, Some, None, length, take, get_or, refl, sym, ap, subst, ◌∙◌, arith}
+use Rattle.std.proofs.Common.{◌≡◌, ℕ, ◌+◌, ◌-◌, ◌<◌, Bool, true, false, IsTrue, ◌↔◌, MatchBool, List, ◌∷◌, Some, None, length}
+use Rattle.std.proofs.Common.{take, get_or, refl, sym, ap, subst, ◌∙◌, arith}
 use Rattle.std.proofs.lemmas.List.{take_all}
 use Rattle.std.proofs.lemmas.Option.{same_Some}
 use Rattle.rm_types.specs.declared.formats.Format.{Format}
@@ -41,7 +42,8 @@ has_fits format before last history is legal may room =
 pub is_legal : (format : Format) (before : List Logged) (last : Logged) (history : History) → history ≡ act_of last ∷ acts_of before
     → IsLegal format (acts_of before) → newest_lsn (acts_of before) < last.lsn.0 → MayCome (acts_of before) (act_of last)
     → Fits (act_of last ∷ acts_of before) → IsEntered format (acts_of before) (act_of last)
-    → (MayCome (acts_of before) (act_of last) → IsEntered format (acts_of before) (act_of last) → EntriesFollow format (acts_of before) → EntriesFollow format history)
+    → (MayCome (acts_of before) (act_of last) → IsEntered format (acts_of before) (act_of last) → EntriesFollow format (acts_of before)
+    → EntriesFollow format history)
     → IsLegal format (act_of last ∷ acts_of before)
 is_legal format before last history is legal above may fits entered follow = (
   legal,
@@ -55,7 +57,8 @@ pub room_with : (act : Act) (before history : History) (page : ℕ) (found : Boo
     → MatchBool found (MayCome before act → Fits before → Fits history) (Fits history → ⊥)
 room_with act before history page true is set on =
     λ may fits. subst Fits (sym is)
-    (keeps_room act before may fits (λ other also. subst (FitsOn (act ∷ before)) (same_Some page other (sym set ∙ also)) (subst (λ (h : History). FitsOn h page) is (on.0 refl))))
+    (keeps_room act before may fits
+    (λ other also. subst (FitsOn (act ∷ before)) (same_Some page other (sym set ∙ also)) (subst (λ (h : History). FitsOn h page) is (on.0 refl))))
 room_with act before history page false is set on = λ fits. let yes : false ≡ true = on.1 (fits page) in cc
 
 pub room_without : (act : Act) (before history : History) → history ≡ act ∷ before → page_in act ≡ None → MayCome before act → Fits before → Fits history
@@ -72,7 +75,8 @@ followed_without format act before history is other may entered follow =
 pub followed_with : (format : Format) (last : Logged) (txn : TxnId) (before history : History) (found : Bool) → last.what ≡ Commit txn
     → history ≡ act_of last ∷ before
     → MatchBool found (EachFollows format history (pending_of before txn.0)) (EntriesFollow format history → ⊥)
-    → MatchBool found (MayCome before (act_of last) → IsEntered format before (act_of last) → EntriesFollow format before → EntriesFollow format history) (EntriesFollow format history → ⊥)
+    → MatchBool found (MayCome before (act_of last) → IsEntered format before (act_of last) → EntriesFollow format before
+    → EntriesFollow format history) (EntriesFollow format history → ⊥)
 followed_with format last txn before history true what is each =
     let act : act_of last ≡ commits (record { lsn = last.lsn.0; txn = txn.0 }) = ap (act_at last.lsn.0) what in
     λ may entered follow. subst (EntriesFollow format) (sym is) (keeps_entries format (act_of last) before may entered follow

@@ -10,7 +10,8 @@ use Rattle.rm_history.specs.Pending.{older, pending_of}
 use Rattle.rm_history.specs.Rows.{rows_of_log}
 use Rattle.rm_history.specs.Rules.{MayChange, MayUndo, MayEnd, IsInOrder}
 use Rattle.rm_history.specs.Laws.{IsChanged}
-use Rattle.rm_history.proofs.PendingSteps.{cases_rid, pending-change, pending-change_other, pending-undo, pending-undo_other, pending-commit, pending-commit_other, pending-end_other, if_equal, slot_at-put, slot_at-put_other}
+use Rattle.rm_history.proofs.PendingSteps.{cases_rid, pending-change, pending-change_other, pending-undo, pending-undo_other}
+use Rattle.rm_history.proofs.PendingSteps.{pending-commit, pending-commit_other, pending-end_other, if_equal, slot_at-put, slot_at-put_other}
 use Rattle.rm_history.proofs.PendingLaws.{changed_none, pending_is_of_one}
 use Rattle.rm_history.proofs.LeadsBack.{LeadsBack, same_way, unchanged_row, unchanged_leads, cases_changed, applied_leads, applied_free}
 
@@ -54,8 +55,16 @@ leads-change c before may rid leads =
     let longer : LeadsBack rid held (c ∷ pending_of before c.txn) row = elim (cases_rid c.rid rid) [
       | inl here ↦
           let found : held_in before rid ≡ c.before = subst (λ (r : Rid). held_in before r ≡ c.before) here may.held in
-          inl (here, held-change c before rid here, same_way rid (held_in before rid) c.before (pending_of before c.txn) (pending_of before c.txn) row found refl leads)
-      | inr other ↦ inr (other, same_way rid (held_in before rid) held (pending_of before c.txn) (pending_of before c.txn) row (held-change_other c before rid other) refl leads)
+          inl (
+            here,
+            held-change c before rid here,
+            same_way rid (held_in before rid) c.before (pending_of before c.txn) (pending_of before c.txn) row found refl leads,
+          )
+      | inr other ↦ inr (
+        other,
+        same_way rid (held_in before rid) held (pending_of before c.txn) (pending_of before c.txn) row
+            (held-change_other c before rid other) refl leads,
+      )
     ] in
     same_way rid held held (c ∷ pending_of before c.txn) (pending_of (changes c ∷ before) c.txn) row refl (sym (pending-change c before)) longer
 

@@ -1,5 +1,6 @@
 -- An area whose first wrong place is somewhere has no log.
-use Rattle.std.proofs.Common.{◌≡◌, ◌⊎◌, inl, inr, ℕ, ◌+◌, ◌<◌, ◌≤◌, List, [], ◌∷◌, ◌++◌, length, take, drop, ◌^◌, refl, sym, ap, subst, ◌∙◌, arith, length-append, append_assoc}
+use Rattle.std.proofs.Common.{◌≡◌, ◌⊎◌, inl, inr, ℕ, ◌+◌, ◌<◌, ◌≤◌, List, [], ◌∷◌, ◌++◌, length, take, drop, ◌^◌, refl, sym, ap}
+use Rattle.std.proofs.Common.{subst, ◌∙◌, arith, length-append, append_assoc}
 use Rattle.std.specs.Int.{to_be_bytes, from_be_bytes, w32}
 use Rattle.std.specs.List.{AllByRecursion}
 use Rattle.std.proofs.lemmas.Grind.{flat_map-append}
@@ -51,7 +52,12 @@ spelled_around prefix batch found = ap spelling_all found.split ∙ flat_map-app
 
 found_within : (prefix batch : Batch) (found : Next prefix batch) → length (spelling_all prefix) + length (spelling found.next) ≤ length (spelling_all batch)
 found_within prefix batch found =
-    omega (arith, ap length (spelled_around prefix batch found), length-append (spelling_all prefix) (spelling found.next ++ spelling_all found.rest), length-append (spelling found.next) (spelling_all found.rest))
+    omega (
+      arith,
+      ap length (spelled_around prefix batch found),
+      length-append (spelling_all prefix) (spelling found.next ++ spelling_all found.rest),
+      length-append (spelling found.next) (spelling_all found.rest),
+    )
 
 module _ (area : Bytes) where
   -- as many bytes as some that stand there
@@ -91,7 +97,8 @@ module _ (area : Bytes) where
       (shows_take (gate + 1 + 4) (spelling_all prefix) (spelling_all batch) begins whole (omega arith)) shorter in
       let there : Shows area (gate + 1 + 4 + length (spelling_all prefix)) (spelling found.next) =
       shows_front (spelling found.next) (spelling_all found.rest)
-      (shows_back (spelling_all prefix) (spelling found.next ++ spelling_all found.rest) (subst (λ (l : List ℕ). Shows area (gate + 1 + 4) l) (spelled_around prefix batch found) whole)) in
+      (shows_back (spelling_all prefix) (spelling found.next ++ spelling_all found.rest)
+      (subst (λ (l : List ℕ). Shows area (gate + 1 + 4) l) (spelled_around prefix batch found) whole)) in
       let place : gate + 1 + 4 + length (spelling_all prefix) ≡ at = omega (arith, wrong.place) in
       let fits : length (spelling_all prefix) + length (spelling found.next) ≤ wrong.len =
       omega (arith, same, found_within prefix batch found) in

@@ -92,7 +92,8 @@ net_agree log other txn (changes c ∷ acts) agree =
     elim (cases_eq c.txn txn) [
       | inl mine ↦
           ap (λ (l : List Change). cond (eqb c.txn txn) (cond (is_undone c.lsn log) l (c ∷ l)) l) rest
-          ∙ ap (λ (b : Bool). cond (eqb c.txn txn) (cond b (net_among other txn acts) (c ∷ net_among other txn acts)) (net_among other txn acts)) (agree c.lsn (inl (refl, mine)))
+          ∙ ap (λ (b : Bool). cond (eqb c.txn txn) (cond b (net_among other txn acts) (c ∷ net_among other txn acts)) (net_among other txn acts))
+          (agree c.lsn (inl (refl, mine)))
       | inr foreign ↦
           net_foreign log txn c acts (ne_eqb c.txn txn foreign) ∙ rest ∙ sym (net_foreign other txn c acts (ne_eqb c.txn txn foreign))
     ]

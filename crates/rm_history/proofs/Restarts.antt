@@ -138,7 +138,15 @@ all_are_undone : (format : Format) (before new : History) (all : List Change) �
     → AllUndone format before all new → AllAreUndone format before new
 all_are_undone format before new [] legal is undone =
     subst (AllAreUndone format before) (sym undone)
-    (record { legal = legal; none = is; kept = λ any finished. finished; no_more = λ any finished. finished; records = λ any has. has; rows = refl; sizes = λ page. refl })
+    (record {
+      legal = legal;
+      none = is;
+      kept = λ any finished. finished;
+      no_more = λ any finished. finished;
+      records = λ any has. has;
+      rows = refl;
+      sizes = λ page. refl;
+    })
 all_are_undone format before new (last ∷ rest) legal is undone =
     let mid : History = undone.0 in
     let mine : pending_of before last.txn ≡ last ∷ of_txn last.txn rest = pending_of-newest before last rest is in
@@ -180,7 +188,15 @@ all_have_ended : (format : Format) (before new : History) (txns : List ℕ) → 
     → ((txn : ℕ) → pending_of before txn ≡ []) → AllEnded before txns new → AllHaveEnded format before txns new
 all_have_ended format before new [] legal rise unfinished none ended =
     subst (AllHaveEnded format before []) (sym ended)
-    (record { legal = legal; pending = λ any. refl; finished = λ any among. absurd among; kept = λ any finished. finished; records = λ any has. inr has; rows = refl; sizes = λ page. refl })
+    (record {
+      legal = legal;
+      pending = λ any. refl;
+      finished = λ any among. absurd among;
+      kept = λ any finished. finished;
+      records = λ any has. inr has;
+      rows = refl;
+      sizes = λ page. refl;
+    })
 all_have_ended format before new (txn ∷ rest) legal rise unfinished none ended =
     let mid : History = ended.0 in
     let one : HasEnded format before txn mid = has_ended format before mid txn legal (unfinished txn (inl refl)) (none txn) ended.1 in

@@ -10,7 +10,8 @@ use Rattle.rm_history.specs.Pending.{of_txn, without_newest, without, all_pendin
 use Rattle.rm_history.specs.Rules.{IsInOrder}
 use Rattle.rm_history.specs.Losers.{with_number, without_number, losers_of, IsAmong}
 use Rattle.rm_history.specs.Undoing.{category_after, entry_for, undo_for, Settles, Undone, Ended}
-use Rattle.rm_history.specs.UndoBytes.{inventory_record, compensate_record, end_record, bytes_of, entry_bytes, some_lsn, with_entry, with_undo, undoing_bytes, ending_bytes, undo_bytes}
+use Rattle.rm_history.specs.UndoBytes.{inventory_record, compensate_record, end_record, bytes_of, entry_bytes, some_lsn}
+use Rattle.rm_history.specs.UndoBytes.{with_entry, with_undo, undoing_bytes, ending_bytes, undo_bytes}
 use Rattle.rm_history.specs.UndoLaws.{UndoBytesGoDown}
 use Rattle.rm_history.proofs.Chains.{last_is_unfinished}
 use Rattle.rm_history.proofs.AllPending.{pending_of-newest, without_newest-head}
@@ -103,9 +104,11 @@ some_undone format history last = record {
 entry_bytes_alike : (format : Format) (history other : History) (last : Change) → AreAlike history other
     → entry_bytes format history last ≡ entry_bytes format other last
 entry_bytes_alike format history other last alike =
-    ap (λ (entry : ℕ). cond (eqb entry (category_after format history last)) 0 (bytes_of (inventory_record (entry_for format 0 history last)))) (alike.entries last.rid.page)
+    ap (λ (entry : ℕ). cond (eqb entry (category_after format history last)) 0 (bytes_of (inventory_record (entry_for format 0 history last))))
+    (alike.entries last.rid.page)
     ∙ ap (λ (category : ℕ). cond (eqb (entry_of other last.rid.page) category) 0
-    (bytes_of (inventory_record (record { lsn = 0; txn = last.txn; page = last.rid.page; category = category })))) (category_alike format history other last alike)
+    (bytes_of (inventory_record (record { lsn = 0; txn = last.txn; page = last.rid.page; category = category }))))
+    (category_alike format history other last alike)
 
 -- and so do those of undoing these changes
 undoing_bytes_alike : (format : Format) (history other : History) (all : List Change) → AreAlike history other
@@ -181,7 +184,8 @@ undo_bytes-undone format before new last rest ordered is undone =
 pub undo_bytes-entered : (format : Format) (before : History) (last : Change) (rest : List Change) (lsn : ℕ) → IsInOrder before
     → all_pending before ≡ last ∷ rest
     → (entry_of before last.rid.page ≡ category_after format before last → ⊥) → newest_lsn before < lsn
-    → undo_bytes format before ≡ bytes_of (inventory_record (entry_for format 0 before last)) + undo_bytes format (enters (entry_for format lsn before last) ∷ before)
+    → undo_bytes format before ≡ bytes_of (inventory_record (entry_for format 0 before last)) + undo_bytes format
+    (enters (entry_for format lsn before last) ∷ before)
 undo_bytes-entered format before last rest lsn ordered is wrong above =
     let mid : History = enters (entry_for format lsn before last) ∷ before in
     let new : History = undoes (undo_for (some_lsn mid) last) ∷ mid in

@@ -7,7 +7,8 @@ use Rattle.rm_history.specs.Contents.{page_of}
 use Rattle.rm_history.specs.Rows.{settled_of}
 use Rattle.rm_history.specs.Losers.{losers_of}
 use Rattle.rm_history.specs.UndoBytes.{undo_bytes}
-use Rattle.rm_history.proofs.ExampleLogs.{row, deleted, undone, ended, the_last_first, in_turn, falls_behind, stays_behind, two_pending, two_long_pending, not_entered}
+use Rattle.rm_history.proofs.ExampleLogs.{row, deleted, undone, ended, the_last_first, in_turn, falls_behind, stays_behind}
+use Rattle.rm_history.proofs.ExampleLogs.{two_pending, two_long_pending, not_entered}
 
 -- ---- losers
 

@@ -14,7 +14,8 @@ use Rattle.rm_history.specs.Rules.{MayUndo, MayEnter, Follows, IsInOrder}
 use Rattle.rm_history.specs.Legal.{EntriesFollow, IsLegal}
 use Rattle.rm_history.specs.Undoing.{category_after, entry_for, undo_for, Settles, Undone}
 use Rattle.rm_history.specs.UndoLaws.{IsUndone, UndoesAreInOrder, NoUndoLacksRoom}
-use Rattle.rm_history.proofs.NeedSums.{sum_below-zero, room_kept, used-inside, pending_of-undo, pending_on-undo, need_of-undo, need_of-undo_other, fits_as_before}
+use Rattle.rm_history.proofs.NeedSums.{sum_below-zero, room_kept, used-inside, pending_of-undo, pending_on-undo, need_of-undo}
+use Rattle.rm_history.proofs.NeedSums.{need_of-undo_other, fits_as_before}
 use Rattle.rm_history.proofs.Following.{entries_follow_undo, entries_follow_entry}
 use Rattle.rm_history.proofs.Prefixes.{legal_is_in_order}
 use Rattle.rm_history.proofs.PendingSteps.{pending-undo_other}
@@ -176,8 +177,11 @@ undone_mine format before new last rest legal unfinished is undone =
 -- an undo is in order
 pub undoes_are_in_order : UndoesAreInOrder
 undoes_are_in_order before txn lsn last rest ordered unfinished is above =
-    let mine : last.txn ≡ txn = last_is_of before txn last rest is in
-    (ordered, undo_follows before last rest lsn ordered (λ f. unfinished (subst (λ (t : ℕ). IsFinished before t) mine f)) (ap (pending_of before) mine ∙ is) above)
+    let mine : last.txn ≡ txn = last_is_of before txn last rest is in (
+      ordered,
+      undo_follows before last rest lsn ordered (λ f. unfinished (subst (λ (t : ℕ). IsFinished before t) mine f))
+          (ap (pending_of before) mine ∙ is) above,
+    )
 
 -- no undo lacks room
 pub no_undo_lacks_room : NoUndoLacksRoom

@@ -1,5 +1,6 @@
 -- A field that is read is the field that was written, and what was written is read again.
-use Rattle.std.proofs.Common.{◌≡◌, ℕ, suc, ◌+◌, ◌-◌, ◌^◌, ◌<◌, ◌≤◌, Bool, true, false, cond, ltb, eqb, List, [], ◌∷◌, ◌++◌, length, take, drop, Option, Some, None, ◌⊎◌, refl, sym, ap, subst, ◌∙◌, append_assoc, arith, inl, inr}
+use Rattle.std.proofs.Common.{◌≡◌, ℕ, suc, ◌+◌, ◌-◌, ◌^◌, ◌<◌, ◌≤◌, Bool, true, false, cond, ltb, eqb, List, [], ◌∷◌, ◌++◌}
+use Rattle.std.proofs.Common.{length, take, drop, Option, Some, None, ◌⊎◌, refl, sym, ap, subst, ◌∙◌, append_assoc, arith, inl, inr}
 use Rattle.std.specs.Prelude.{nat_le, nat_lt}
 use Rattle.std.specs.Int.{Width, w16, w32, w64, byte_len, from_be_bytes, to_be_bytes}
 use Rattle.std.proofs.lemmas.Bool.{cases_lt, ltb-false, ltb-true, le-ltb, lt-ltb, leb-true, le-leb, eqb-true}
@@ -16,7 +17,8 @@ use Rattle.rm_types.specs.declared.slots.TheConstants.{CAPACITY}
 use Rattle.rm_types.specs.declared.rows.TheConstants.{MAX_ROW}
 use Rattle.rm_record.specs.declared.fields.Change.{Change}
 use Rattle.rm_record.specs.Records.{AreBytes, IsTxn, IsRid, IsRow, IsSlot, IsChange, rid_bytes, row_bytes, slot_bytes, change_bytes}
-use Rattle.rm_record.specs.Fields.{◌>>=◌, Reads, kept, made, both, byte_field, number_field, number_up_to, number_between, txn_field, lsn_field, page_field, rid_field, need_field, change_field, row_field, slot_field, category_field, next_field}
+use Rattle.rm_record.specs.Fields.{◌>>=◌, Reads, kept, made, both, byte_field, number_field, number_up_to, number_between}
+use Rattle.rm_record.specs.Fields.{txn_field, lsn_field, page_field, rid_field, need_field, change_field, row_field, slot_field, category_field, next_field}
 
 AreBytes-drop : (n : ℕ) (bytes : List ℕ) → AreBytes bytes → AreBytes (drop n bytes)
 AreBytes-drop n bytes h i = rw get_or-drop (h (n + i))
@@ -220,13 +222,15 @@ need_is = up_to_is w16 (2 ^ 16) CAPACITY wide16 (omega arith)
 abbrev ChangeParts : Type 0
 ChangeParts = TxnId × (Lsn × (Rid × ℕ))
 
-pub change_is : IsField change_field (λ change. change_bytes change.txn change.under change.rid change.need) (λ change. IsChange change.txn change.under change.rid change.need)
+pub change_is : IsField change_field (λ change. change_bytes change.txn change.under change.rid change.need)
+    (λ change. IsChange change.txn change.under change.rid change.need)
 unfolding change_field
 change_is =
     said_is (λ change. refl)
     (λ change p. record { by = p.0; above = p.1.0; place = p.1.1.0; reserved = p.1.1.1 })
     (λ change is. (is.by, (is.above, (is.place, is.reserved))))
-    (made_is (λ (p : ChangeParts). let change : Change = record { txn = p.0; under = p.1.0; rid = p.1.1.0; need = p.1.1.1 } in change) (λ change. (change.txn, (change.under, (change.rid, change.need)))) (λ p. refl) (λ change. refl)
+    (made_is (λ (p : ChangeParts). let change : Change = record { txn = p.0; under = p.1.0; rid = p.1.1.0; need = p.1.1.1 } in change)
+    (λ change. (change.txn, (change.under, (change.rid, change.need)))) (λ p. refl) (λ change. refl)
     (both_is txn_is (both_is lsn_is (both_is rid_is need_is))))
 
 pub category_is : IsField category_field (λ n. n ∷ []) (λ n. n ≤ MAX_RECORDED_CATEGORY)

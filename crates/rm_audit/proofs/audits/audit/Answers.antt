@@ -26,7 +26,8 @@ judge-requires-clause-after c = acts_more c.args.log.now c.loop-at.at c.index-lo
 
 pub returns-in-Some-clause-legal : goal.returns-in-Some-clause-legal
 returns-in-Some-clause-legal c =
-    let first : IsFirstBroken c.args.format (conditions_of (act_of c.index-log-at.result)) (acts_of (take c.loop-at.at c.args.log.now)) (act_of c.index-log-at.result) c.in-Some.why =
+    let first : IsFirstBroken c.args.format (conditions_of (act_of c.index-log-at.result)) (acts_of (take c.loop-at.at c.args.log.now))
+    (act_of c.index-log-at.result) c.in-Some.why =
     rw c.in-Some.is at c.in_ok-why.ensures in (
       λ is. absurd (not_legal _ _ is),
       λ legal. absurd (first_refused c.args.format (act_of c.index-log-at.result) (acts_of (take c.loop-at.at c.args.log.now)) c.in-Some.why first
@@ -35,7 +36,8 @@ returns-in-Some-clause-legal c =
 
 pub returns-in-Some-clause-illegal : goal.returns-in-Some-clause-illegal
 returns-in-Some-clause-illegal c =
-    let broken : IsFirstBroken c.args.format (conditions_of (act_of c.index-log-at.result)) (acts_of (take c.loop-at.at c.args.log.now)) (act_of c.index-log-at.result) c.in-Some.why =
+    let broken : IsFirstBroken c.args.format (conditions_of (act_of c.index-log-at.result)) (acts_of (take c.loop-at.at c.args.log.now))
+    (act_of c.index-log-at.result) c.in-Some.why =
     rw c.in-Some.is at c.in_ok-why.ensures in
     let first : IsFirstIllegal c.args.format c.args.log.now c.index-log-at.result.lsn c.in-Some.why =
     first_illegal c.args.format c.args.log.now c.loop-at.at c.index-log-at.result c.in-Some.why (search rules) c.index-log-at.is c.loop-at.invariant broken in

@@ -42,7 +42,13 @@ pub loop-txn-smaller : goal.loop-txn-smaller
 loop-txn-smaller c =
     let now : List Change = reverse c.loop-txn.left.items in
     let led : IsLed c.in-Some.txn.0 now = rw c.deref.ensures.value at c.in-Some.ensures in
-    omega (arith, length-without_led c.in-Some.txn.0 now led, ap length c.remove_of.ensures, length-reverse c.loop-txn.left.items, length-reverse c.remove_of.new.pending.items)
+    omega (
+      arith,
+      length-without_led c.in-Some.txn.0 now led,
+      ap length c.remove_of.ensures,
+      length-reverse c.loop-txn.left.items,
+      length-reverse c.remove_of.new.pending.items,
+    )
 
 pub loop-txn-preserved : goal.loop-txn-preserved
 loop-txn-preserved c =
@@ -56,6 +62,7 @@ pub returns : goal.returns
 returns c =
     let none : c.loop-txn.left.items ≡ [] = sym c.deref.ensures.value ∙ c.in_default.ensures in (
       λ yes. all_within (need_in (reverse c.args.left.items) c.args.page) c.args.room
-          (λ n enough. none_left (reverse c.args.left.items) (reverse c.loop-txn.left.items) c.args.page c.loop-txn.room c.args.room n (ap reverse none) (c.loop-txn.invariant n enough)),
+          (λ n enough. none_left (reverse c.args.left.items) (reverse c.loop-txn.left.items) c.args.page c.loop-txn.room c.args.room n
+          (ap reverse none) (c.loop-txn.invariant n enough)),
       λ within. refl,
     )
