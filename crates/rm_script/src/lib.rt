@@ -17,6 +17,3 @@ pub use fields::number;
 pub use reading::{read_plain, read_turns};
 pub use refused::ScriptRefused;
 pub use texts::{created_text, reply_text, restart_text, turn_text, unfinished_text};
-
-#[cfg(test)]
-mod tests;
