@@ -33,10 +33,7 @@ MayReply pages old (op.Read rid) reply.NoRow new = (old rid ≡ None) × (new �
 MayReply pages old (op.Read rid) reply.BadRid new = IsOutside pages rid × (new ≡ old)
 MayReply pages old op.Commit reply.Committed new = new ≡ old
 MayReply pages old op.Unbound reply.Unbound new = new ≡ old
--- any operation but an unbound one may be skipped
+-- a begin inside a transaction
 MayReply pages old op.Begin reply.Skipped new = new ≡ old
-MayReply pages old (op.Insert row) reply.Skipped new = new ≡ old
-MayReply pages old (op.Read rid) reply.Skipped new = new ≡ old
-MayReply pages old op.Commit reply.Skipped new = new ≡ old
 -- no other reply comes
 MayReply pages old operation other new = ⊥

@@ -6,6 +6,7 @@
 #![tactic(auto)]
 
 mod directory;
+mod files;
 
 ghost use Rattle.std.specs.Prelude.{◌≡◌, ℕ, ◌+◌, ◌<◌, ◌≤◌, [], length, option_copied, IfSome, IsSome, OnOk, OnErr};
 ghost use Rattle.rm_types.specs.declared.numbers.TheConstants.{MAX_SLOT};
@@ -13,6 +14,7 @@ ghost use Rattle.rm_types.specs.declared.rows.TheConstants.{MAX_ROW};
 ghost use Rattle.rm_model.specs.Pages.{used, row_at, set_slot};
 
 use crate::directory::{put, row_in, used_after};
+pub use crate::files::empty_pages;
 use rm_types::{CAPACITY, Lsn, NoMemory, Row, Slot};
 use std::alloc::Global;
 use std::marker::Model;

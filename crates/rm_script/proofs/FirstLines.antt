@@ -1,9 +1,9 @@
 -- The first line of some bytes, and the lines that were read so far.
 use Rattle.std.proofs.Common.{◌≡◌, ℕ, suc, ◌+◌, ◌<◌, ◌==◌, List, [], ◌∷◌, ◌++◌, length, Option, Some, None, IfSome, IfNone, unwrap_or, refl, sym, ap, ◌∙◌, arith, append_assoc}
 use Rattle.std.specs.Borrow.{Bor}
-use Rattle.rm_types.specs.declared.lines.Line.{Line}
-use Rattle.rm_model.specs.Grammar.{IsLine, AreLines, IsFirstWrong, lines_of}
-use Rattle.rm_model.proofs.LinesOf.{lines_of-cut, lines_of-last, some_line}
+use Rattle.rm_script.specs.declared.lines.Line.{Line}
+use Rattle.rm_script.specs.Grammar.{IsLine, AreLines, IsFirstWrong, lines_of}
+use Rattle.rm_script.proofs.LinesOf.{lines_of-cut, lines_of-last, some_line}
 use Rattle.rm_script.specs.Cuts.{IsCut, Lacks}
 use Rattle.rm_script.specs.Reading.{HasRead, StopsAt}
 

@@ -3,14 +3,14 @@ use Rattle.std.proofs.Common.{◌≡◌, ◌≢◌, ℕ, ◌^◌, ◌<◌, ◌�
 use Rattle.std.specs.Option.{IsSomeAnd}
 use Rattle.std.proofs.lemmas.Result.{IfOk-weaker}
 use Rattle.rm_types.specs.declared.rows.TheConstants.{MAX_ROW}
-use Rattle.rm_types.specs.declared.lines.Line.{Line}
-use Rattle.rm_types.specs.declared.lines.Line.TheVariants as line
-use Rattle.rm_types.specs.declared.lines.Target.{Target}
-use Rattle.rm_types.specs.declared.lines.Target.TheVariants as target
-use Rattle.rm_model.specs.Grammar.{IsWrittenOut, IsRow, IsTarget, IsLine, IsWrong, name_text}
-use Rattle.rm_model.specs.Texts.{hex_byte, hex}
-use Rattle.rm_model.proofs.Cuts.{same_cut, no_cut, Lacks-decimal, Lacks-hex, Lacks-name_text}
-use Rattle.rm_model.proofs.Readings.{place-cut}
+use Rattle.rm_script.specs.declared.lines.Line.{Line}
+use Rattle.rm_script.specs.declared.lines.Line.TheVariants as line
+use Rattle.rm_script.specs.declared.lines.Target.{Target}
+use Rattle.rm_script.specs.declared.lines.Target.TheVariants as target
+use Rattle.rm_script.specs.Grammar.{IsWrittenOut, IsRow, IsTarget, IsLine, IsWrong, name_text}
+use Rattle.rm_script.specs.Texts.{hex_byte, hex}
+use Rattle.rm_script.proofs.CutLaws.{same_cut, no_cut, Lacks-decimal, Lacks-hex, Lacks-name_text}
+use Rattle.rm_script.proofs.Readings.{place-cut}
 use Rattle.rm_script.specs.Cuts.{IsCut, Lacks}
 
 -- a target is spelled with a dot exactly where it is a row id

@@ -1,9 +1,9 @@
 -- Why a script is refused.
 use Rattle.std.specs.Prelude.{ℕ, ◌<◌, ◌≤◌, List, length}
-use Rattle.rm_types.specs.declared.lines.Which.{Which}
-use Rattle.rm_types.specs.declared.lines.Which.TheVariants as which
-use Rattle.rm_types.specs.declared.lines.TheConstants.{MAX_BYTES, MAX_LINES}
-use Rattle.rm_model.specs.Grammar.{lines_of, IsFirstWrong, IsFirstWrongTurns, IsWithinLimits}
+use Rattle.rm_script.specs.declared.lines.Which.{Which}
+use Rattle.rm_script.specs.declared.lines.Which.TheVariants as which
+use Rattle.rm_script.specs.declared.lines.TheConstants.{MAX_BYTES, MAX_LINES}
+use Rattle.rm_script.specs.Grammar.{lines_of, IsFirstWrong, IsFirstWrongTurns, IsWithinLimits}
 use Rattle.rm_script.specs.declared.refused.ScriptRefused.{ScriptRefused}
 use Rattle.rm_script.specs.declared.refused.ScriptRefused.TheVariants as refused
 

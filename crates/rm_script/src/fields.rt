@@ -1,12 +1,13 @@
 //! The numbers, names and places in a line.
 
 ghost use Rattle.std.specs.Prelude.{◌≡◌, ℕ, ◌^◌, ◌<◌, ◌≤◌, decimal, IfSome, IfNone};
-ghost use Rattle.rm_types.specs.declared.lines.Target.{Target};
-ghost use Rattle.rm_model.specs.Grammar.{IsTarget, name_text};
+ghost use Rattle.rm_script.specs.declared.lines.Target.{Target};
+ghost use Rattle.rm_script.specs.Grammar.{IsTarget, name_text};
 ghost use Rattle.rm_script.specs.Cuts.{IsCut};
 
 use crate::cuts::cut;
-use rm_types::{MAX_ROW, Name, Rid, Target};
+use crate::lines::{Name, Target};
+use rm_types::{MAX_ROW, Rid};
 
 /// The number that the text spells in decimal, without a leading zero.
 pub fn number(text: &[u8]) -> Option<u32>

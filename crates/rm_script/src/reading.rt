@@ -1,14 +1,15 @@
 //! Reading a whole script.
 
 ghost use Rattle.std.specs.Prelude.{◌≡◌, ◌==◌, ◌<◌, ◌≤◌, [], ◌∷◌, length, count_by, IfOk, IfErr, IfSome, IfNone};
-ghost use Rattle.rm_model.specs.Grammar.{IsPlain, IsTurns, IsWithinLimits, lines_of};
+ghost use Rattle.rm_script.specs.Grammar.{IsPlain, IsTurns, IsWithinLimits, lines_of};
 ghost use Rattle.rm_script.specs.Reading.{HasRead, LacksFirst, StopsAt};
 ghost use Rattle.rm_script.specs.Refusals.{HasTooMuch, Refuses, RefusesTurns};
 
 use crate::cuts::cut;
 use crate::instructions::line_of;
+use crate::lines::{Line, MAX_BYTES, MAX_LINES, Script, Which};
 use crate::refused::ScriptRefused;
-use rm_types::{Line, MAX_BYTES, MAX_LINES, NoMemory, Script, Which};
+use rm_types::NoMemory;
 use std::alloc::Global;
 
 const SESSION: &[u8] = b"session 1";

@@ -1,7 +1,7 @@
 //! How replies, and what is told beside them, are written.
 
 ghost use Rattle.std.specs.Prelude.{◌≡◌, ◌≤◌, ◌++◌, codes, decimal, length, take, OnOk, OnErr, vec_len};
-ghost use Rattle.rm_model.specs.Texts.{created_line, hex, place, restart_line, shown, text_of, turn_line, unfinished_line};
+ghost use Rattle.rm_script.specs.Texts.{created_line, hex, place, restart_line, shown, text_of, turn_line, unfinished_line};
 
 use itoa::Buffer;
 use rm_types::{MAX_ROW, NoMemory, Reply, Rid, TxnId};

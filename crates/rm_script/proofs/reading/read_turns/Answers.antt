@@ -1,7 +1,7 @@
 use Rattle.std.proofs.Common.{◌+◌, ◌<◌, ◌≡◌, length, arith, ap}
 use Rattle.std.proofs.lemmas.Bool.Decides.{nat_tests}
 use Rattle.std.proofs.lemmas.List.{nil_from_length}
-use Rattle.rm_model.specs.Grammar.{lines_of}
+use Rattle.rm_script.specs.Grammar.{lines_of}
 use Rattle.rm_script.proofs.FirstLines.{lines_are_left}
 use Rattle.rm_script.proofs.FirstTurns.{session_read, no_session, no_turns, no_finish, no_end, is_turns}
 use Rattle.rm_script.proofs.reading.read_turns.Goals as goal

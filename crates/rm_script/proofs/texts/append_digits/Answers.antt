@@ -2,7 +2,7 @@ use Rattle.std.proofs.Common.{◌≡◌, arith, length, take, rules, ap}
 use Rattle.std.proofs.lemmas.Grind.{common_steps}
 use Rattle.hex.proofs.HexLemmas.{length-encode_with}
 use Rattle.hex.specs.Hex.{encode_lower, lower_digits}
-use Rattle.rm_model.specs.Texts.{hex}
+use Rattle.rm_script.specs.Texts.{hex}
 use Rattle.rm_script.proofs.RowDigits.{encode_lower-is, take-written}
 use Rattle.rm_script.proofs.texts.append_digits.Goals as goal
 
