@@ -6,8 +6,8 @@ use rm_audit::{
     Verdict, all_pending, audit, committed_rows, entry, has_record, is_finished, need, needs_on,
     page, pending_changes, row, version,
 };
-use rm_record::{LogRecord, Logged};
-use rm_types::{Format, Lsn, Rid, Row, SLOT_ENTRY, Slot, TxnId};
+use rm_record::Logged;
+use rm_types::{Format, SLOT_ENTRY, Slot, TxnId};
 use std::alloc::Global;
 use std::process::Abort;
 use std::test::Fail;
@@ -169,41 +169,27 @@ fn a_log_says_what_is_committed_and_what_is_pending(rt: HostRuntime) -> Result<(
     Ok(())
 }
 
-/// How many transactions, and on how many pages each puts a row.
-const TXNS: u16 = 100;
-
-const PAGES: u32 = 19;
-
-/// Puts a transaction after the log that inserts two bytes on each page, and commits. The LSNs are the counts of
-/// records.
-fn add_txn(alloc: Global, log: &mut Vec<Logged>, slot: u16) -> Result<(), Fail> {
-    let txn = TxnId(slot as u32 + 1);
-    let mut under = Lsn(0);
-    for page in 0..PAGES {
-        let lsn = Lsn(log.len() as u64 + 1);
-        let rid = Rid { page, slot };
-        let row = Row::repeated(alloc, 0x61, 2)?;
-        let what = LogRecord::Insert {
-            txn,
-            under,
-            rid,
-            need: 0,
-            row,
-        };
-        log.push(Logged { lsn, what })?;
+/// Puts a transaction after the log that inserts two bytes on each of 19 pages, and commits. The LSNs are the counts
+/// of records.
+fn add_txn(alloc: Global, log: &mut Vec<Logged>, txn: u32) -> Result<(), Fail> {
+    let slot = txn.saturating_sub(1);
+    let mut under = 0;
+    for page in 0..19 {
+        let lsn = log.len() as u64 + 1;
+        let line = format!(in alloc; "{lsn} {txn} insert {under} {page}.{slot} 0 61*2")?;
+        log.push(logged(alloc, line.as_str())?)?;
         under = lsn;
     }
-    let lsn = Lsn(log.len() as u64 + 1);
-    let what = LogRecord::Commit { txn };
-    log.push(Logged { lsn, what })?;
+    let line = format!(in alloc; "{} {txn} commit", log.len() as u64 + 1)?;
+    log.push(logged(alloc, line.as_str())?)?;
     Ok(())
 }
 
 #[test]
 fn two_thousand_records_are_legal(rt: HostRuntime) -> Result<(), Fail> {
     let mut log = Vec::new(rt.alloc());
-    for slot in 0..TXNS {
-        add_txn(rt.alloc(), &mut log, slot)?;
+    for txn in 1..101 {
+        add_txn(rt.alloc(), &mut log, txn)?;
     }
     assert_eq!(rt; log.len(), 2000);
     assert_eq!(rt; audit(rt.alloc(), Format::One, &log)?, Verdict::Legal);

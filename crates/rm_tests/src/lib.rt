@@ -8,6 +8,24 @@
 #[cfg(test)]
 mod audits;
 #[cfg(test)]
+mod commands;
+#[cfg(test)]
+mod devices;
+#[cfg(test)]
+mod engines;
+#[cfg(test)]
+mod files;
+#[cfg(test)]
 mod logs;
 #[cfg(test)]
 mod records;
+#[cfg(test)]
+mod scripts;
+#[cfg(test)]
+mod spellings;
+#[cfg(test)]
+mod streams;
+#[cfg(test)]
+mod texts;
+#[cfg(test)]
+mod volumes;

@@ -129,14 +129,19 @@ fn record_of(alloc: Global, txn: TxnId, words: &[&str]) -> Result<LogRecord, Fai
     }
 }
 
-/// The record of this line.
-pub(crate) fn logged(alloc: Global, line: &str) -> Result<Logged, Fail> {
+/// The record of this line without its LSN.
+pub(crate) fn record(alloc: Global, line: &str) -> Result<LogRecord, Fail> {
     let words: Vec<&str> = line.split_whitespace().collect(alloc)?;
-    let [lsn, txn, rest @ ..] = words.as_slice() else {
+    let [txn, rest @ ..] = words.as_slice() else {
         return Err("no record".into());
     };
+    record_of(alloc, TxnId(txn.parse::<u32>()?), rest)
+}
+
+/// The record of this line.
+pub(crate) fn logged(alloc: Global, line: &str) -> Result<Logged, Fail> {
+    let (lsn, rest) = line.trim_start().split_once(' ').ok_or("no record")?;
     let lsn = lsn_of(lsn)?;
-    let txn = TxnId(txn.parse::<u32>()?);
-    let what = record_of(alloc, txn, rest)?;
+    let what = record(alloc, rest)?;
     Ok(Logged { lsn, what })
 }
