@@ -1,5 +1,5 @@
-//! What a page stands for, a file of pages, and the one-thread object: what one user of a file of rows
-//! may be told (docs/DEFINITIONS.md).
+//! What a page stands for, a file of pages, and the one-thread object: which replies one user of a file of
+//! rows may get (docs/DEFINITIONS.md).
 //!
 //! The crate has no code. Its function is a law: it ensures something of the definitions alone.
 #![tactic(auto)]

@@ -106,7 +106,7 @@ impl Page {
     }
 
     /// Sets one slot to a row, with `lsn` as the page's LSN. A slot past the end adds vacant ones before it.
-    /// The caller sees to it that the row fits, as [`Page::used_with`] tells: there is no refusal for space.
+    /// The caller ensures that the row fits, see [`Page::used_with`]: there is no refusal for space.
     ///
     /// # Errors
     ///

@@ -13,21 +13,21 @@ abbrev pub Lacks : ℕ → List ℕ → Type 0
 Lacks byte text = AllByRecursion (λ other. other ≢ byte) text
 
 -- a text is cut in one way
-pub same_cut : (byte : ℕ) (front back front' back' : List ℕ) → Lacks byte front → Lacks byte front' → front ++ byte ∷ back ≡ front' ++ byte ∷ back' → (front ≡ front') × (back ≡ back')
+pub same_cut : (byte : ℕ) (prefix back prefix' back' : List ℕ) → Lacks byte prefix → Lacks byte prefix' → prefix ++ byte ∷ back ≡ prefix' ++ byte ∷ back' → (prefix ≡ prefix') × (back ≡ back')
 same_cut byte [] back [] back' l l' e = (cc, cc)
-same_cut byte [] back (y ∷ front') back' l l' e = absurd (l'.0 (cc))
-same_cut byte (x ∷ front) back [] back' l l' e = absurd (l.0 (cc))
-same_cut byte (x ∷ front) back (y ∷ front') back' l l' e =
-    let rest : front ++ byte ∷ back ≡ front' ++ byte ∷ back' = cc in
-    let same = same_cut byte front back front' back' l.1 l'.1 rest in
-    let fronts = same.0 in (cc, same.1)
+same_cut byte [] back (y ∷ prefix') back' l l' e = absurd (l'.0 (cc))
+same_cut byte (x ∷ prefix) back [] back' l l' e = absurd (l.0 (cc))
+same_cut byte (x ∷ prefix) back (y ∷ prefix') back' l l' e =
+    let rest : prefix ++ byte ∷ back ≡ prefix' ++ byte ∷ back' = cc in
+    let same = same_cut byte prefix back prefix' back' l.1 l'.1 rest in
+    let prefixes = same.0 in (cc, same.1)
 
 -- a text without the byte is not cut there
-pub no_cut : (byte : ℕ) (text front back : List ℕ) → Lacks byte text → text ≡ front ++ byte ∷ back → ⊥
+pub no_cut : (byte : ℕ) (text prefix back : List ℕ) → Lacks byte text → text ≡ prefix ++ byte ∷ back → ⊥
 no_cut byte [] [] back l e = cc
-no_cut byte [] (y ∷ front) back l e = cc
+no_cut byte [] (y ∷ prefix) back l e = cc
 no_cut byte (x ∷ text) [] back l e = l.0 (cc)
-no_cut byte (x ∷ text) (y ∷ front) back l e = let rest : text ≡ front ++ byte ∷ back = cc in no_cut byte text front back l.1 rest
+no_cut byte (x ∷ text) (y ∷ prefix) back l e = let rest : text ≡ prefix ++ byte ∷ back = cc in no_cut byte text prefix back l.1 rest
 
 -- decimal digits are none of the marks that end a field
 pub Lacks-decimal : (byte n : ℕ) → byte < 48 → n < 2 ^ 64 → Lacks byte (decimal n)

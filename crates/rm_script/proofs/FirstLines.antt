@@ -7,8 +7,8 @@ use Rattle.rm_script.proofs.LinesOf.{lines_of-cut, lines_of-last, some_line}
 use Rattle.rm_script.specs.Cuts.{IsCut, Lacks}
 use Rattle.rm_script.specs.Reading.{HasRead, StopsAt}
 
-pub first_of_cut : (bytes front back : List ℕ) → IsCut 10 bytes front back → lines_of bytes ≡ front ∷ lines_of back
-first_of_cut bytes front back cut = ap lines_of cut.whole ∙ lines_of-cut front back cut.is_first
+pub first_of_cut : (bytes prefix back : List ℕ) → IsCut 10 bytes prefix back → lines_of bytes ≡ prefix ∷ lines_of back
+first_of_cut bytes prefix back cut = ap lines_of cut.whole ∙ lines_of-cut prefix back cut.is_first
 
 pub lone_line : (bytes : List ℕ) → 0 < length bytes → Lacks 10 bytes → lines_of bytes ≡ bytes ∷ []
 lone_line [] some whole = absurd (omega (arith, some))

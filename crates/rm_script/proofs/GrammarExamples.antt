@@ -51,7 +51,7 @@ turns_without_lines = record {
   is_number = refl;
 }
 
--- and where it ends behind its operations, the next one
+-- and where it ends after its operations, the next one
 turns_without_turns : IsFirstWrongTurns 3 (codes "session 1\nbegin\n")
 turns_without_turns = record {
   right = codes "session 1" ∷ codes "begin" ∷ [];
@@ -62,7 +62,7 @@ turns_without_turns = record {
   is_number = refl;
 }
 
--- a line behind the last is wrong
+-- a line after the last is wrong
 turns_and_more : IsFirstWrongTurns 4 (codes "session 1\nturns\nfinish 200000\ncommit")
 turns_and_more = record {
   right = codes "session 1" ∷ codes "turns" ∷ codes "finish 200000" ∷ [];

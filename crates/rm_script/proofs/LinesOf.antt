@@ -10,10 +10,10 @@ other_byte : {A : Type 0} (byte other : ℕ) (x y : A) → (byte ≡ other → �
 other_byte byte other x y apart = grind (arith, nat_tests)
 
 -- up to the first LF the bytes are the first line
-pub lines_of-cut : (front back : List ℕ) → Lacks 10 front → lines_of (front ++ 10 ∷ back) ≡ front ∷ lines_of back
+pub lines_of-cut : (prefix back : List ℕ) → Lacks 10 prefix → lines_of (prefix ++ 10 ∷ back) ≡ prefix ∷ lines_of back
 lines_of-cut [] back l = refl
-lines_of-cut (x ∷ front) back l =
-    other_byte x 10 _ _ l.0 ∙ ap (onto_first x) (lines_of-cut front back l.1)
+lines_of-cut (x ∷ prefix) back l =
+    other_byte x 10 _ _ l.0 ∙ ap (onto_first x) (lines_of-cut prefix back l.1)
 
 -- with no LF they are the one line
 pub lines_of-last : (byte : ℕ) (bytes : List ℕ) → Lacks 10 (byte ∷ bytes) → lines_of (byte ∷ bytes) ≡ (byte ∷ bytes) ∷ []

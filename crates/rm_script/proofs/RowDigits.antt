@@ -34,8 +34,8 @@ encode_lower-is (byte ∷ row) bytes =
     let rest = encode_lower-is row (λ k. bytes (suc k)) in
     rw (high, low, rest) refl
 
--- what stands in front of the cut, once the place behind old is written
-pub take-written : (old front digits other rest more : List ℕ) (n : ℕ) → front ≡ old → digits ≡ other → n ≡ length old + length other → take n ((front ++ (digits ++ rest)) ++ more) ≡ old ++ other
-take-written old front digits other rest more n same_front same_digits len =
+-- what stands before the cut, once the place after old is written
+pub take-written : (old prefix digits other rest more : List ℕ) (n : ℕ) → prefix ≡ old → digits ≡ other → n ≡ length old + length other → take n ((prefix ++ (digits ++ rest)) ++ more) ≡ old ++ other
+take-written old prefix digits other rest more n same_front same_digits len =
     let flat : (old ++ (other ++ rest)) ++ more ≡ (old ++ other) ++ (rest ++ more) = simp append_assoc in
     rw (same_front, same_digits, flat) (take_at (old ++ other) (rest ++ more) n (omega (arith, length-append old other)))

@@ -54,7 +54,7 @@ unwritten text r whole h = IfOk-weaker r _ _ (λ found. none_weaker found (no_wr
 apart : (text other : List ℕ) → get_or text 0 0 ≢ get_or other 0 0 → text ≡ other → ⊥
 apart text other differ e = differ (ap (λ t. get_or t 0 0) e)
 
--- behind `insert ` stands an insert or no line
+-- after `insert ` stands an insert or no line
 pub no_insert : (text : List ℕ) → ((name : ℕ) (row spelling : List ℕ) → name < 26 → IsRow row spelling → text ≡ name_text name ++ 32 ∷ spelling → ⊥) → IsWrong (codes "insert " ++ text)
 no_insert text none line.Begin p = apart _ _ (λ e. omega (arith, e)) p
 no_insert text none (line.Insert name row) p = none name row p.1.0 p.0 p.1.1 (ap (drop 7) p.1.2)

@@ -14,9 +14,9 @@ use Rattle.rm_script.specs.Texts.{hex, hex_digit, place, shown, text_of, unfinis
 abbrev pub HasNoLf : List ℕ → Type 0
 HasNoLf bytes = AllByRecursion (λ byte. byte ≢ 10) bytes
 
-pub HasNoLf-append : (front back : List ℕ) → HasNoLf front → HasNoLf back → HasNoLf (front ++ back)
+pub HasNoLf-append : (prefix back : List ℕ) → HasNoLf prefix → HasNoLf back → HasNoLf (prefix ++ back)
 HasNoLf-append [] back first second = second
-HasNoLf-append (byte ∷ front) back first second = (first.0, HasNoLf-append front back first.1 second)
+HasNoLf-append (byte ∷ prefix) back first second = (first.0, HasNoLf-append prefix back first.1 second)
 
 -- the same as a test, which computes on fixed texts
 abbrev has_no_lf : List ℕ → Bool
@@ -52,11 +52,11 @@ HasNoLf-place rid page slot =
     (HasNoLf-append (decimal rid.page) (codes ".") (HasNoLf-decimal rid.page (omega arith)) (HasNoLf-from_test (codes ".") refl))
     (HasNoLf-decimal rid.slot (omega arith))
 
--- a word of the script, and what stands behind it
+-- a word of the script, and what stands after it
 line_of : (word rest : List ℕ) → has_no_lf word ≡ true → HasNoLf rest → IsOneLine (word ++ rest ++ codes "\n")
 line_of word rest passes clear = (word ++ rest, HasNoLf-append word rest (HasNoLf-from_test word passes) clear, refl)
 
-reply_line : (told : Reply) → IsInRange told → IsOneLine (text_of told)
+reply_line : (answer : Reply) → IsInRange answer → IsOneLine (text_of answer)
 reply_line (reply.Began id) fits = line_of (codes "begin ") (decimal id.0) refl (HasNoLf-decimal id.0 (omega arith))
 reply_line (reply.Inserted rid) fits = line_of (codes "inserted ") (place rid) refl (HasNoLf-place rid fits.0 fits.1)
 reply_line reply.NoSpace fits = (codes "nospace", HasNoLf-from_test (codes "nospace") refl, refl)
@@ -67,20 +67,20 @@ reply_line reply.Committed fits = (codes "committed", HasNoLf-from_test (codes "
 reply_line reply.Unbound fits = (codes "unbound", HasNoLf-from_test (codes "unbound") refl, refl)
 reply_line reply.Skipped fits = (codes "skipped", HasNoLf-from_test (codes "skipped") refl, refl)
 
--- what stands in front of a line, without LF, makes it a longer line
-line_behind : (front line : List ℕ) → HasNoLf front → IsOneLine line → IsOneLine (front ++ line)
-line_behind front line clear one =
-    (front ++ one.0, HasNoLf-append front one.0 clear one.1, ap (λ l. front ++ l) one.2 ∙ sym (append_assoc front one.0 (10 ∷ [])))
+-- a text without LF before a line makes it a longer line
+line_after : (prefix line : List ℕ) → HasNoLf prefix → IsOneLine line → IsOneLine (prefix ++ line)
+line_after prefix line clear one =
+    (prefix ++ one.0, HasNoLf-append prefix one.0 clear one.1, ap (λ l. prefix ++ l) one.2 ∙ sym (append_assoc prefix one.0 (10 ∷ [])))
 
--- a number, a word behind it and a line
+-- a number, a word after it and a line
 number_line : (number : ℕ) (word line : List ℕ) → number < 2 ^ 64 → has_no_lf word ≡ true → IsOneLine line → IsOneLine (decimal number ++ word ++ line)
 number_line number word line small passes one =
-    line_behind (decimal number ++ word) line (HasNoLf-append (decimal number) word (HasNoLf-decimal number small) (HasNoLf-from_test word passes)) one
+    line_after (decimal number ++ word) line (HasNoLf-append (decimal number) word (HasNoLf-decimal number small) (HasNoLf-from_test word passes)) one
 
--- a word and a number behind a text without LF
-word_number : (front word : List ℕ) (number : ℕ) → HasNoLf front → has_no_lf word ≡ true → number < 2 ^ 64 → HasNoLf (front ++ word ++ decimal number)
-word_number front word number clear passes small =
-    HasNoLf-append (front ++ word) (decimal number) (HasNoLf-append front word clear (HasNoLf-from_test word passes)) (HasNoLf-decimal number small)
+-- a word and a number after a text without LF
+word_number : (prefix word : List ℕ) (number : ℕ) → HasNoLf prefix → has_no_lf word ≡ true → number < 2 ^ 64 → HasNoLf (prefix ++ word ++ decimal number)
+word_number prefix word number clear passes small =
+    HasNoLf-append (prefix ++ word) (decimal number) (HasNoLf-append prefix word clear (HasNoLf-from_test word passes)) (HasNoLf-decimal number small)
 
 unfinished_is_line : (session txn : ℕ) → session < 2 ^ 8 → txn < 2 ^ 32 → IsOneLine (unfinished_line session txn)
 unfinished_is_line session txn small fits = (
@@ -101,7 +101,7 @@ restart_is_line records applied undone r a u =
 pub texts_are_lines : TextsAreLines
 texts_are_lines = record {
   reply = reply_line;
-  turn = λ session told small fits. number_line session (codes " ") (text_of told) (omega arith) refl (reply_line told fits);
+  turn = λ session answer small fits. number_line session (codes " ") (text_of answer) (omega arith) refl (reply_line answer fits);
   unfinished = unfinished_is_line;
   created = λ pages small. line_of (codes "created ") (decimal pages) refl (HasNoLf-decimal pages (omega arith));
   restart = restart_is_line;

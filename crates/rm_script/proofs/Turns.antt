@@ -35,15 +35,15 @@ right_goes_on texts right (next ∷ rest) lines form e wrong =
 pub none_wrong : (bytes : List ℕ) (lines : List Line) (number : ℕ) → IsTurns lines bytes → IsFirstWrongTurns number bytes → ⊥
 none_wrong bytes lines number form first = right_goes_on (lines_of bytes) first.right first.rest lines form first.cut first.goes_wrong
 
--- texts that begin a script in the form have no front that goes wrong before they end
-front_of : (right rest other rest' : List (List ℕ)) → right ++ rest ≡ other ++ rest' → length right < length other → (more : List (List ℕ)) × (other ≡ right ++ more) × (0 < length more) × (rest ≡ more ++ rest')
-front_of [] rest other rest' e short = (other, refl, short, e)
-front_of (text ∷ right) rest [] rest' e short = absurd (omega arith)
-front_of (text ∷ right) rest (first ∷ other) rest' e short =
+-- texts that begin a script in the form have no prefix that goes wrong before they end
+prefix_of : (right rest other rest' : List (List ℕ)) → right ++ rest ≡ other ++ rest' → length right < length other → (more : List (List ℕ)) × (other ≡ right ++ more) × (0 < length more) × (rest ≡ more ++ rest')
+prefix_of [] rest other rest' e short = (other, refl, short, e)
+prefix_of (text ∷ right) rest [] rest' e short = absurd (omega arith)
+prefix_of (text ∷ right) rest (first ∷ other) rest' e short =
     let tails : right ++ rest ≡ other ++ rest' = cc in
-    let front = front_of right rest other rest' tails (omega arith) in
+    let prefix = prefix_of right rest other rest' tails (omega arith) in
     let same : first ≡ text = cc in
-    (front.0, ap (λ t. t ∷ other) same ∙ ap (λ ts. text ∷ ts) front.1, front.2, front.3)
+    (prefix.0, ap (λ t. t ∷ other) same ∙ ap (λ ts. text ∷ ts) prefix.1, prefix.2, prefix.3)
 
 longer_wrong : (right rest more rest' : List (List ℕ)) → rest ≡ more ++ rest' → 0 < length more → BeginsTurns (right ++ more) → GoesWrong right rest → ⊥
 longer_wrong right rest [] rest' e some begins wrong = absurd (omega (arith, some))
@@ -57,8 +57,8 @@ longer_wrong right (text ∷ rest) (next ∷ more) rest' e some begins wrong =
 
 not_before : (bytes : List ℕ) (number other : ℕ) → IsFirstWrongTurns number bytes → IsFirstWrongTurns other bytes → number < other → ⊥
 not_before bytes number other a b short =
-    let front = front_of a.right a.rest b.right b.rest (sym a.cut ∙ b.cut) (omega (arith, a.is_number, b.is_number, short)) in
-    longer_wrong a.right a.rest front.0 b.rest front.3 front.2 (subst BeginsTurns front.1 b.begins) a.goes_wrong
+    let prefix = prefix_of a.right a.rest b.right b.rest (sym a.cut ∙ b.cut) (omega (arith, a.is_number, b.is_number, short)) in
+    longer_wrong a.right a.rest prefix.0 b.rest prefix.3 prefix.2 (subst BeginsTurns prefix.1 b.begins) a.goes_wrong
 
 pub one_wrong : (bytes : List ℕ) (number other : ℕ) → IsFirstWrongTurns number bytes → IsFirstWrongTurns other bytes → number ≡ other
 one_wrong bytes number other a b =

@@ -14,7 +14,7 @@ abbrev pub lines_of : List ℕ → List (List ℕ)
 lines_of [] = []
 lines_of (byte ∷ bytes) = if byte == 10 then [] ∷ lines_of bytes else onto_first byte (lines_of bytes)
 
--- a row as a count, a star and a byte: that byte so many times
+-- a row as a count, a star and a byte: that byte as often
 pub record IsRepeated (row text : List ℕ) : Type 0 where
   pub count : ℕ
   pub byte : ℕ
@@ -92,7 +92,7 @@ IsTurns lines bytes = IsSessionForm lines (lines_of bytes)
 abbrev pub BeginsTurns : List (List ℕ) → Type 0
 BeginsTurns texts = (lines : List Line) × (more : List (List ℕ)) × IsSessionForm lines (texts ++ more)
 
--- behind the texts that are right the script ends and is not whole, or the next text makes it wrong
+-- after the texts that are right the script ends and is not whole, or the next text makes it wrong
 abbrev pub GoesWrong : List (List ℕ) → List (List ℕ) → Type 0
 GoesWrong right [] = (lines : List Line) → IsSessionForm lines right → ⊥
 GoesWrong right (wrong ∷ rest) = BeginsTurns (right ++ wrong ∷ []) → ⊥

@@ -28,12 +28,12 @@ IsInRange other = Unit {0}
 
 -- one LF, and that at the end
 abbrev pub IsOneLine : List ℕ → Type 0
-IsOneLine text = (front : List ℕ) × AllByRecursion (λ byte. byte ≢ 10) front × (text ≡ front ++ 10 ∷ [])
+IsOneLine text = (prefix : List ℕ) × AllByRecursion (λ byte. byte ≢ 10) prefix × (text ≡ prefix ++ 10 ∷ [])
 
 -- each text is written as one line, where its numbers are in their ranges
 pub record TextsAreLines : Type 0 where
-  pub reply : (told : Reply) → IsInRange told → IsOneLine (text_of told)
-  pub turn : (session : ℕ) (told : Reply) → session < 2 ^ 8 → IsInRange told → IsOneLine (turn_line session told)
+  pub reply : (answer : Reply) → IsInRange answer → IsOneLine (text_of answer)
+  pub turn : (session : ℕ) (answer : Reply) → session < 2 ^ 8 → IsInRange answer → IsOneLine (turn_line session answer)
   pub unfinished : (session txn : ℕ) → session < 2 ^ 8 → txn < 2 ^ 32 → IsOneLine (unfinished_line session txn)
   pub created : (pages : ℕ) → pages < 2 ^ 32 → IsOneLine (created_line pages)
   pub restart : (records applied undone : ℕ) → records < 2 ^ 64 → applied < 2 ^ 64 → undone < 2 ^ 64 → IsOneLine (restart_line records applied undone)

@@ -12,13 +12,13 @@ abbrev pub HasTooMuch : List ℕ → Which → Type 0
 HasTooMuch bytes which.Bytes = MAX_BYTES < length bytes
 HasTooMuch bytes which.Lines = (length bytes ≤ MAX_BYTES) × (MAX_LINES < length (lines_of bytes))
 
--- the bytes are refused for that reason, where the plain form is wanted
+-- the bytes are refused for that reason, read in the plain form
 abbrev pub Refuses : List ℕ → ScriptRefused → Type 0
 Refuses bytes (refused.Bad line) = IsWithinLimits bytes × IsFirstWrong line bytes
 Refuses bytes (refused.Limit what) = HasTooMuch bytes what
 Refuses bytes refused.NoMemory = Unit {0}
 
--- the same, where the form of `turns` is wanted
+-- the same, read in the form of `turns`
 abbrev pub RefusesTurns : List ℕ → ScriptRefused → Type 0
 RefusesTurns bytes (refused.Bad line) = IsWithinLimits bytes × IsFirstWrongTurns line bytes
 RefusesTurns bytes (refused.Limit what) = HasTooMuch bytes what

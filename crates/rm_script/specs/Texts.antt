@@ -1,4 +1,4 @@
--- How replies, and what is told beside them, are written.
+-- How replies and the other lines that are printed are written.
 use Rattle.std.specs.Prelude.{ℕ, ◌+◌, ◌/◌, ◌%◌, nat_lt, if◌then◌else◌, List, [], ◌∷◌, ◌++◌, codes, decimal}
 use Rattle.std.specs.List.{flat_map}
 use Rattle.rm_types.specs.declared.numbers.Rid.{Rid}
@@ -42,7 +42,7 @@ text_of reply.Skipped = codes "skipped\n"
 abbrev pub texts_of : List Reply → List ℕ
 texts_of replies = flat_map text_of replies
 
--- a reply as a line of `turns`: the session's number stands in front of it
+-- a reply as a line of `turns`: the session's number stands before it
 abbrev pub turn_line : ℕ → Reply → List ℕ
 turn_line session reply = decimal session ++ codes " " ++ text_of reply
 
@@ -54,7 +54,7 @@ turn_lines session replies = flat_map (turn_line session) replies
 abbrev pub unfinished_line : ℕ → ℕ → List ℕ
 unfinished_line session txn = decimal session ++ codes " unfinished " ++ decimal txn ++ codes "\n"
 
--- a volume that was created, with so many pages
+-- a volume that was created, with this many pages
 abbrev pub created_line : ℕ → List ℕ
 created_line pages = codes "created " ++ decimal pages ++ codes "\n"
 

@@ -22,7 +22,7 @@ pub fn number(text: &[u8]) -> Option<u32>
     str::from_utf8(text).ok()?.parse().ok()
 }
 
-/// The number of bytes that the text spells, where a row may have so many.
+/// The number of bytes that the text spells, if a row may have that many.
 pub(crate) fn row_length(text: &[u8]) -> Option<usize>
     ensures some { IfSome result (λ n. (n ≤ MAX_ROW) × (text.now ≡ decimal n)) }
     ensures none { IfNone result ((n : ℕ) → n ≤ MAX_ROW → text.now ≡ decimal n → ⊥) }

@@ -24,12 +24,12 @@ lacks_room_at pages number len page inside is has none test =
       | inr room ↦ absurd (both_ways has none (test room))
     ])
 
--- a row set behind the directory of the first page with room is inserted
+-- a row set after the directory of the first page with room is inserted
 pub insert_is : (pages : List PageValue) (page new : PageValue) (number slot : ℕ) (row : List ℕ) (lsn : Lsn) → IsFirstWithRoom (slots_of pages) (length row) number → slot ≡ length (get_or pages number page).slots → new ≡ record { lsn = lsn; slots = set_slot (get_or pages number page).slots slot (Row row) } → Inserts (slots_of pages) row (reply.Inserted (record { page = number; slot = slot })) (slots_of (set pages number new))
-insert_is pages page new number slot row lsn first behind made =
+insert_is pages page new number slot row lsn first after made =
     let inside : number < length pages = omega (arith, first.in_file, length-slots_of pages) in
     let slots : page_at (slots_of pages) number ≡ (get_or pages number page).slots = page_at-slots_of pages number page inside in
-    ((first, behind ∙ ap (λ (found : List Slot). length found) (sym slots)), slots_of-set pages number new ∙ rw (made, slots) refl)
+    ((first, after ∙ ap (λ (found : List Slot). length found) (sym slots)), slots_of-set pages number new ∙ rw (made, slots) refl)
 
 -- an insert's reply is drawn by a session in a transaction
 pub inserts_draws : (old : Core) (pages : List (List Slot)) (row : List ℕ) (told : Reply) → old.active ≡ true → Inserts old.pages row told pages → Draws old (op.Insert row) told (record old { pages = pages })

@@ -10,7 +10,7 @@ use Rattle.rm_model.specs.Object.{IsOutside}
 use Rattle.rm_model.specs.Files.{page_at, rows_of, set_row}
 use Rattle.rm_session.specs.Session.{LacksRoom, IsPlaceFor, IsInside, Core, Comes, MayDraw}
 
--- no page has room for a row of so many bytes
+-- no page has room for a row of `len` bytes
 abbrev pub IsFull : List (List Slot) → ℕ → Type 0
 IsFull pages len = (page : ℕ) → page < length pages → LacksRoom (page_at pages page) len
 

@@ -15,7 +15,7 @@ use Rattle.rm_model.specs.Pages.{used}
 use Rattle.rm_model.specs.Files.{page_at, rows_of, set_row}
 use Rattle.rm_model.specs.Object.{Rows, IsOutside, MayReply}
 
--- a row of so many bytes fits behind the directory of a page; it does not
+-- a row of `len` bytes fits after the directory of a page; it does not
 abbrev pub HasRoom : List Slot → ℕ → Type 0
 HasRoom slots len = used slots + SLOT_ENTRY + len ≤ CAPACITY
 
@@ -34,7 +34,7 @@ pub record Core : Type 0 where
   pub next : ℕ
   pub active : Bool
 
--- the place of an insert: behind the directory of the first page with room
+-- the place of an insert: after the directory of the first page with room
 abbrev pub IsPlaceFor : List (List Slot) → ℕ → Rid → Type 0
 IsPlaceFor pages len rid = IsFirstWithRoom pages len rid.page × (rid.slot ≡ length (page_at pages rid.page))
 
@@ -44,7 +44,7 @@ IsInside pages rid = (rid.page < pages) × (rid.slot ≤ MAX_SLOT)
 
 -- Of the replies that the object may give, this one comes, and leaves the core so.
 abbrev pub Comes : Core → Op → Reply → Core → Type 0
--- a name that is not bound is told first
+-- a name that is not bound comes first
 Comes old op.Unbound reply.Unbound new = new ≡ old
 -- then a begin inside a transaction is skipped, and every other operation outside one
 Comes old op.Begin reply.Skipped new = (old.active ≡ true) × (new ≡ old)
@@ -57,7 +57,7 @@ Comes old op.Commit reply.Committed new = (old.active ≡ true) × (new ≡ reco
 -- an insert takes its place, unless no page has room
 Comes old (op.Insert row) (reply.Inserted rid) new = (old.active ≡ true) × IsPlaceFor old.pages (length row) rid × (new ≡ record old { pages = set_row old.pages rid row })
 Comes old (op.Insert row) reply.NoSpace new = (old.active ≡ true) × ((page : ℕ) → page < length old.pages → LacksRoom (page_at old.pages page) (length row)) × (new ≡ old)
--- a read of a place that the file lacks is told before the row is looked at
+-- a read of a place that the file lacks is refused before the row is looked at
 Comes old (op.Read rid) reply.BadRid new = (old.active ≡ true) × IsOutside (length old.pages) rid × (new ≡ old)
 Comes old (op.Read rid) (reply.Row row) new = (old.active ≡ true) × IsInside (length old.pages) rid × (new ≡ old)
 Comes old (op.Read rid) reply.NoRow new = (old.active ≡ true) × IsInside (length old.pages) rid × (new ≡ old)
@@ -97,6 +97,6 @@ Run old (said ∷ lines) [] new = ⊥
 abbrev pub opened : List (List Slot) → ℕ → State
 opened pages next = record { core = record { pages = pages; next = next; active = false }; names = replicate 26 None }
 
--- a session over so many pages without rows
+-- a session over this many pages without rows
 abbrev pub fresh : ℕ → State
 fresh pages = opened (replicate pages []) 1

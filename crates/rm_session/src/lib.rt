@@ -1,7 +1,7 @@
 //! One session over a file of pages in memory: it does a line at a time, and answers its reply.
 //!
 //! Every turn is one step of a run (`Step`). The pages are all that the session
-//! knows of its rows, and each row stands where its insert was told. There are fewer than 2^32 pages, so
+//! knows of its rows, and each row stands where its insert replied. There are fewer than 2^32 pages, so
 //! that a row id has a number for each. A turn that lacks memory leaves the session as it was.
 #![tactic(auto)]
 
@@ -77,7 +77,7 @@ impl Session {
         self.next
     }
 
-    /// Whether a page has room for a row of so many bytes.
+    /// Whether a page has room for a row of `len` bytes.
     pub fn has_place(&self, len: usize) -> bool
         requires { len ≤ MAX_ROW }
         ensures { MatchBool result ((page : ℕ) × IsFirstWithRoom self.now.core.pages len page) (IsFull self.now.core.pages len) }

@@ -32,7 +32,7 @@ pub fn first_with_room(pages: &[Page], len: usize) -> Option<u32>
     None
 }
 
-// Inserts the row behind the directory of the first page that has room. An error leaves the pages as they were.
+// Inserts the row after the directory of the first page that has room. An error leaves the pages as they were.
 pub fn insert(pages: &mut [Page], row: &Row, lsn: Lsn) -> Result<Reply, NoMemory>
     requires { length pages.old < 2 ^ 32 }
     ensures ok { IfOk result (λ reply. Inserts (slots_of pages.old) row.now reply (slots_of pages.new)) }

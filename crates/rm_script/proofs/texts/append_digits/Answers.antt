@@ -11,5 +11,5 @@ returns-clause-ok c =
     let row = c.args.row.now in
     let same = encode_lower-is row (λ k. omega (arith, c.type_inv.row k)) in
     let written : c.encode_to_slice.new.output ≡ encode_lower row = search rules in
-    let front : take c.len-start.result c.deref_mut.result.now ≡ c.args.out.now.items = grind (arith, common_steps) in
-    take-written c.args.out.now.items _ c.encode_to_slice.new.output (hex row) _ _ _ front (cc (same, written)) (omega (arith, c.in_ok-resize.ensures.len, ap length same, length-encode_with lower_digits row))
+    let prefix : take c.len-start.result c.deref_mut.result.now ≡ c.args.out.now.items = grind (arith, common_steps) in
+    take-written c.args.out.now.items _ c.encode_to_slice.new.output (hex row) _ _ _ prefix (cc (same, written)) (omega (arith, c.in_ok-resize.ensures.len, ap length same, length-encode_with lower_digits row))
