@@ -116,125 +116,67 @@ listed: a checkpoint with two losers, of which one has nothing pending, and a ch
 169 3 end | 14 0
 179 0 list 4 - - - | 14 0";
 
-/// A legal log, the places of its records from and up to which others stand in their stead, the LSN of the first
-/// record with which it is not legal, the first condition that this record breaks, and those others.
-pub(crate) const BROKEN: &str = "# The LSN of the record before, one that is less, and none.
-kept-category 2 3 1028 NotAbove | 1028 2 insert 0 0.1 0 62*20
-kept-category 5 6 1090 NotAbove | 1090 3 commit
-kept-category 0 1 0 NotAbove | 0 1 insert 0 0.0 0 61*1000
-# A committed transaction commits again, ends, changes a slot, undoes its change, and enters a category.
-kept-category 2 2 1033 Finished | 1033 1 commit
-lowered 6 7 1125 Finished | 1125 2 end
-kept-category 2 3 1038 Finished | 1038 1 insert 0 0.1 0 62*20
-lowered 5 6 1097 Finished | 1097 2 undo 528 0 0.1 -
-lowered 4 5 1087 Finished | 1087 2 enter 0 0
-# One that ended ends again, and commits.
-kept-category 8 8 1262 Finished | 1262 2 end
-kept-category 8 8 1262 Finished | 1262 2 commit
-# An insert into a slot with a row.
-kept-category 2 3 1038 NotHeld | 1038 2 insert 0 0.0 0 62*20
-# A delete of another row, and of one that is not there.
-full-undo 3 4 4048 NotHeld | 4048 2 delete 0 0.0 0 62*4000
-kept-category 2 3 1038 NotHeld | 1038 2 delete 0 0.1 0 62*20
-# An update of the row that the slot held before.
-own-row 4 5 4358 NotHeld | 4358 1 update 4061 0.0 0 61*100 64*172
-# An insert into a slot that an unfinished transaction emptied, and into one where its own insert is undone.
-full-undo 5 6 8081 Others | 8081 3 insert 0 0.0 0 62*72
-savepoint 8 8 4443 Others | 4443 3 insert 0 0.2 0 64*1
-# One too low, the record below, none, one that is undone, and another transaction's.
-refilled 5 6 8081 Under | 8081 2 insert 4047 0.0 4000 63*3000
-own-row 4 5 4358 Under | 4358 1 update 128 0.0 0 63*172 64*172
-own-row 1 2 128 Under | 128 1 insert 0 0.1 0 62*3900
-savepoint 8 8 4443 Under | 4443 2 insert 4089 0.3 0 64*1
-lowered 1 2 528 Under | 528 2 insert 5 0.1 0 62*516
-# The net of an insert of 50 bytes and a delete of 100.
-suffix 5 6 367 Need | 367 2 insert 334 0.2 50 63*10
-# What is needed after a delete of 100 bytes, what another page needs, and nothing.
-savepoint 5 6 4162 Need | 4162 2 delete 4089 0.0 100 61*100
-suffix 4 5 334 Need | 334 2 insert 211 1.0 100 63*10
-refilled 5 6 8081 Need | 8081 2 insert 4048 0.0 0 63*3000
-# One byte too many beside what one deleter may need, and two.
-full-undo 5 6 8081 NoRoom | 8081 3 insert 0 0.1 0 62*73
-deleters 9 10 8147 NoRoom | 8147 4 insert 0 0.2 0 63*69
-# One byte too many in an insert and in an update, and in the directory.
-savepoint 4 5 4089 NoRoom | 4089 2 insert 0 0.2 0 63*51
-own-row 3 4 4061 NoRoom | 4061 1 update 128 0.0 0 61*100 63*173
-savepoint 4 5 4089 NoRoom | 4089 2 insert 0 0.5 0 63*39
-# A delete is undone before the insert after it, and that insert under the delete's LSN.
-refilled 7 9 11114 Undone | 11114 2 undo 4048 0 0.0 61*4000
-refilled 8 9 11124 Undone | 11124 2 undo 4048 4048 0.0 -
-# A change is undone twice, and by another transaction.
-refilled 11 11 15192 Undone | 15192 2 undo 4048 0 0.0 61*4000
-kept-category 6 7 1224 Undone | 1224 4 undo 1038 0 0.1 -
-# On another row id.
-kept-category 6 7 1224 Rid | 1224 2 undo 1038 0 0.2 -
-# No pending record below, and the change itself.
-savepoint 6 7 4285 Next | 4285 2 undo 4162 0 0.0 61*100
-kept-category 6 7 1224 Next | 1224 2 undo 1038 1038 0.1 -
-# The row that the update put there, and no row.
-updates 5 6 117 Back | 117 3 undo 90 0 0.1 64*1
-savepoint 6 7 4285 Back | 4285 2 undo 4162 4089 0.0 -
-# Before its inventory record, and without one.
-full-undo 7 9 8186 Entry | 8186 2 undo 4048 0 0.0 61*4000; 12216 2 enter 0 3
-lowered 4 5 1097 Entry |
-# The category before the insert, though the page keeps its own without it; and any.
-kept-category 6 6 1219 WrongCategory | 1219 2 enter 0 0
-full-undo 1 2 4028 WrongCategory | 4028 1 enter 0 2
-# Nothing differs.
-kept-category 5 5 1209 SameCategory | 1209 3 enter 0 1
-# By a transaction without a record, by one whose changes are undone, and by one whose last change is elsewhere.
-full-undo 4 5 8071 NoChange | 8071 4 enter 0 0
-savepoint 8 8 4443 NoChange | 4443 2 enter 0 0
-suffix 5 5 362 NoChange | 362 2 enter 0 1
-# After a commit the entry is too low, twice; and a commit in place of the undo for which the page was entered.
-full-undo 1 2 4038 EntryBehind |
-own-row 2 3 4727 EntryBehind |
-lowered 5 6 1097 EntryBehind | 1097 1 commit
-# An end before the last undo, and without one.
-refilled 9 11 15192 StillPending |
-lowered 4 6 1125 StillPending |
-# The next id is that of a loser, and of a finished transaction.
-listed 5 6 115 NextId | 115 0 list 3 2:39,3:0 - -
-listed 8 9 179 NextId | 179 0 list 3 - - -
-# All losers are forgotten, one, and one that has nothing pending.
-listed 5 6 115 Forgotten | 115 0 list 4 - - -
-listed 5 6 115 Forgotten | 115 0 list 4 3:0 - -
-listed 5 6 115 Forgotten | 115 0 list 4 2:39 - -
-# A committed transaction, one that ended, and one without a record.
-listed 5 6 115 TooMany | 115 0 list 4 1:0,2:39,3:0 - -
-listed 8 9 179 TooMany | 179 0 list 4 3:0 - -
-listed 5 6 115 TooMany | 115 0 list 5 2:39,3:0,4:0 - -
-# The LSN of a change that is undone, and none.
-listed 5 6 115 LoserPlace | 115 0 list 4 2:39,3:63 - -
-listed 5 6 115 LoserPlace | 115 0 list 4 2:0,3:0 - -
-# Records that break several conditions are refused by the first.
-# The LSN of the record before, by a finished transaction.
-kept-category 2 2 1028 NotAbove | 1028 1 commit
-# By a finished transaction, into a slot with a row.
-kept-category 2 3 1038 Finished | 1038 1 insert 0 0.0 0 62*20
-# Into a slot with a row, which another transaction put there.
-kept-category 3 4 1081 NotHeld | 1081 3 insert 0 0.1 0 63*100
-# Into a slot that an unfinished transaction emptied, with a wrong record below.
-full-undo 5 6 8081 Others | 8081 3 insert 4048 0.0 0 62*72
-# A wrong record below, and a wrong need.
-refilled 5 6 8081 Under | 8081 2 insert 4047 0.0 0 63*3000
-# A wrong need, and one byte too many.
-savepoint 4 5 4089 Need | 4089 2 insert 0 0.2 1 63*51
-# Another transaction's change, on its row id.
-kept-category 6 7 1224 Undone | 1224 2 undo 1091 0 0.2 -
-# On another row id, with a wrong record below.
-kept-category 6 7 1224 Rid | 1224 2 undo 1038 1038 0.2 -
-# A wrong record below, and the entry is then too low.
-full-undo 7 8 8186 Next | 8186 2 undo 4048 4048 0.0 61*4000
-# A longer row than the slot held: it lacks room, and the entry is too low.
-full-undo 7 8 8186 Back | 8186 2 undo 4048 0 0.0 61*4076
-# The category that the inventory has, by a transaction without a record.
-full-undo 4 5 8071 NoChange | 8071 4 enter 0 3
-# The category that the inventory has, which the page has neither with its last change nor without it.
-full-undo 1 2 4052 SameCategory | 4028 1 insert 5 0.1 0 62*1; 4052 1 enter 0 0
-# The next id is that of a loser, and no loser is listed.
-listed 5 6 115 NextId | 115 0 list 3 - - -
-# A loser is not listed, and a committed transaction is.
-listed 5 6 115 Forgotten | 115 0 list 4 1:0,2:39 - -
-# A committed transaction is listed, and a loser with another LSN than its own.
-listed 5 6 115 TooMany | 115 0 list 4 1:0,2:0,3:0 - -";
+/// Cases under the condition that is broken first, in the order in which conditions are looked at; the record may
+/// break later ones too. With each: a legal log, the places of its records from and up to which others stand in their
+/// stead, the LSN of the first record with which it is not legal, and then each choice of others.
+pub(crate) const BROKEN: &str = "NotAbove kept-category 2 3 1028 | 1028 2 insert 0 0.1 0 62*20
+NotAbove kept-category 5 6 1090 | 1090 3 commit
+NotAbove kept-category 0 1 0 | 0 1 insert 0 0.0 0 61*1000
+NotAbove kept-category 2 2 1028 | 1028 1 commit
+Finished kept-category 2 2 1033 | 1033 1 commit
+Finished lowered 6 7 1125 | 1125 2 end
+Finished kept-category 2 3 1038 | 1038 1 insert 0 0.1 0 62*20 | 1038 1 insert 0 0.0 0 62*20
+Finished lowered 5 6 1097 | 1097 2 undo 528 0 0.1 -
+Finished lowered 4 5 1087 | 1087 2 enter 0 0
+Finished kept-category 8 8 1262 | 1262 2 end | 1262 2 commit
+NotHeld kept-category 2 3 1038 | 1038 2 insert 0 0.0 0 62*20 | 1038 2 delete 0 0.1 0 62*20
+NotHeld full-undo 3 4 4048 | 4048 2 delete 0 0.0 0 62*4000
+NotHeld own-row 4 5 4358 | 4358 1 update 4061 0.0 0 61*100 64*172
+NotHeld kept-category 3 4 1081 | 1081 3 insert 0 0.1 0 63*100
+Others full-undo 5 6 8081 | 8081 3 insert 0 0.0 0 62*72 | 8081 3 insert 4048 0.0 0 62*72
+Others savepoint 8 8 4443 | 4443 3 insert 0 0.2 0 64*1
+Under refilled 5 6 8081 | 8081 2 insert 4047 0.0 4000 63*3000 | 8081 2 insert 4047 0.0 0 63*3000
+Under own-row 4 5 4358 | 4358 1 update 128 0.0 0 63*172 64*172
+Under own-row 1 2 128 | 128 1 insert 0 0.1 0 62*3900
+Under savepoint 8 8 4443 | 4443 2 insert 4089 0.3 0 64*1
+Under lowered 1 2 528 | 528 2 insert 5 0.1 0 62*516
+Need suffix 5 6 367 | 367 2 insert 334 0.2 50 63*10
+Need savepoint 5 6 4162 | 4162 2 delete 4089 0.0 100 61*100
+Need suffix 4 5 334 | 334 2 insert 211 1.0 100 63*10
+Need refilled 5 6 8081 | 8081 2 insert 4048 0.0 0 63*3000
+Need savepoint 4 5 4089 | 4089 2 insert 0 0.2 1 63*51
+Undone refilled 7 9 11114 | 11114 2 undo 4048 0 0.0 61*4000
+Undone refilled 8 9 11124 | 11124 2 undo 4048 4048 0.0 -
+Undone refilled 11 11 15192 | 15192 2 undo 4048 0 0.0 61*4000
+Undone kept-category 6 7 1224 | 1224 4 undo 1038 0 0.1 - | 1224 2 undo 1091 0 0.2 -
+Rid kept-category 6 7 1224 | 1224 2 undo 1038 0 0.2 - | 1224 2 undo 1038 1038 0.2 -
+Next savepoint 6 7 4285 | 4285 2 undo 4162 0 0.0 61*100
+Next kept-category 6 7 1224 | 1224 2 undo 1038 1038 0.1 -
+Next full-undo 7 8 8186 | 8186 2 undo 4048 4048 0.0 61*4000
+Back updates 5 6 117 | 117 3 undo 90 0 0.1 64*1
+Back savepoint 6 7 4285 | 4285 2 undo 4162 4089 0.0 -
+Back full-undo 7 8 8186 | 8186 2 undo 4048 0 0.0 61*4076
+NoChange full-undo 4 5 8071 | 8071 4 enter 0 0 | 8071 4 enter 0 3
+NoChange savepoint 8 8 4443 | 4443 2 enter 0 0
+NoChange suffix 5 5 362 | 362 2 enter 0 1
+StillPending refilled 9 11 15192 |
+StillPending lowered 4 6 1125 |
+NextId listed 5 6 115 | 115 0 list 3 2:39,3:0 - - | 115 0 list 3 - - -
+NextId listed 8 9 179 | 179 0 list 3 - - -
+Forgotten listed 5 6 115 | 115 0 list 4 - - - | 115 0 list 4 3:0 - - | 115 0 list 4 2:39 - - | 115 0 list 4 1:0,2:39 - -
+TooMany listed 5 6 115 | 115 0 list 4 1:0,2:39,3:0 - - | 115 0 list 5 2:39,3:0,4:0 - - | 115 0 list 4 1:0,2:0,3:0 - -
+TooMany listed 8 9 179 | 179 0 list 4 3:0 - -
+LoserPlace listed 5 6 115 | 115 0 list 4 2:39,3:63 - - | 115 0 list 4 2:0,3:0 - -
+NoRoom full-undo 5 6 8081 | 8081 3 insert 0 0.1 0 62*73
+NoRoom deleters 9 10 8147 | 8147 4 insert 0 0.2 0 63*69
+NoRoom savepoint 4 5 4089 | 4089 2 insert 0 0.2 0 63*51 | 4089 2 insert 0 0.5 0 63*39
+NoRoom own-row 3 4 4061 | 4061 1 update 128 0.0 0 61*100 63*173
+Entry full-undo 7 9 8186 | 8186 2 undo 4048 0 0.0 61*4000; 12216 2 enter 0 3
+Entry lowered 4 5 1097 |
+SameCategory kept-category 5 5 1209 | 1209 3 enter 0 1
+SameCategory full-undo 1 2 4052 | 4028 1 insert 5 0.1 0 62*1; 4052 1 enter 0 0
+WrongCategory kept-category 6 6 1219 | 1219 2 enter 0 0
+WrongCategory full-undo 1 2 4028 | 4028 1 enter 0 2
+EntryBehind full-undo 1 2 4038 |
+EntryBehind own-row 2 3 4727 |
+EntryBehind lowered 5 6 1097 | 1097 1 commit";
