@@ -21,6 +21,3 @@ mod volume;
 pub use crash::FILLING;
 pub use streams::{MemSink, MemSource};
 pub use volume::MemVolume;
-
-#[cfg(test)]
-mod tests;

@@ -1,6 +1,6 @@
 //! A volume over real files.
 
-use crate::FileVolume;
+use rm_files::FileVolume;
 use rm_outside::{Failed, Volume};
 use rm_types::{Area, BLOCK_SIZE};
 use std::test::Fail;
