@@ -1,7 +1,7 @@
 -- A legal history breaks no condition, and a first broken condition is found by parts.
 use Rattle.std.proofs.Common.{◌≡◌, ℕ, List, [], ◌∷◌, ◌++◌, refl, ap, ◌∙◌, inl, inr}
 use Rattle.rm_types.specs.declared.formats.Format.{Format}
-use Rattle.rm_history.specs.Acts.{Act, Change, Undo, Entry, Listing, History, changes, undoes, enters, commits, ends, lists}
+use Rattle.rm_history.specs.Acts.{Act, Change, Undo, Entry, Listing, History, changes, undoes, enters, commits, ends, marks}
 use Rattle.rm_history.specs.Pending.{pending_of, last_of}
 use Rattle.rm_history.specs.Rules.{IsLast, MayList, MayCome}
 use Rattle.rm_history.specs.Legal.{category_with, IsEntry, IsEntered, IsLegal}
@@ -104,7 +104,7 @@ may_breaks_none format (undoes u) before may = (
 may_breaks_none format (enters e) before may = (may.unfinished, (λ no. no may.last may.is_last may.page_is, tt))
 may_breaks_none format (commits f) before may = (may, tt)
 may_breaks_none format (ends f) before may = (may.unfinished, (λ some. some may.none, tt))
-may_breaks_none format (lists l) before may =
+may_breaks_none format (marks m) before may =
     (λ above. above.2 (may.next_is above.0 above.1), (forgotten_met before l may, (too_many_met before l may, (loser_place_met before l may, tt))))
 
 -- a record that has what it asks of the inventory breaks none of that
@@ -114,7 +114,7 @@ entered_breaks_none format (undoes u) before is = (λ no. no is, tt)
 entered_breaks_none format (enters e) before is = (λ same. is.differs same, (category_met format before e is, tt))
 entered_breaks_none format (commits f) before is = tt
 entered_breaks_none format (ends f) before is = tt
-entered_breaks_none format (lists l) before is = tt
+entered_breaks_none format (marks m) before is = tt
 
 -- a record with which a history is legal breaks none of its conditions
 legal_breaks_none : (format : Format) (act : Act) (before : History) → IsLegal format (act ∷ before) → BreaksNone format (conditions_of act) before act

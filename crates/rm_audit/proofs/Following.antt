@@ -4,7 +4,7 @@ use Rattle.std.proofs.lemmas.Bool.{cases_eq, eq-eqb, ne_eqb}
 use Rattle.rm_types.specs.declared.formats.Format.{Format}
 use Rattle.rm_types.specs.declared.numbers.Rid.{Rid}
 use Rattle.rm_model.specs.Pages.{set_slot}
-use Rattle.rm_history.specs.Acts.{Act, Change, Undo, Entry, History, changes, undoes, enters, commits, ends, lists}
+use Rattle.rm_history.specs.Acts.{Act, Change, Undo, Entry, History, changes, undoes, enters, commits, ends, marks}
 use Rattle.rm_history.specs.Contents.{page_of, category_of, entry_of}
 use Rattle.rm_history.specs.Pending.{pending_of}
 use Rattle.rm_history.specs.Needs.{on_page}
@@ -65,7 +65,7 @@ IsCommitOf (undoes u) txn = ⊥
 IsCommitOf (enters e) txn = ⊥
 IsCommitOf (commits f) txn = f.txn ≡ txn
 IsCommitOf (ends f) txn = ⊥
-IsCommitOf (lists l) txn = ⊥
+IsCommitOf (marks m) txn = ⊥
 
 pub keeps_entries : (format : Format) (act : Act) (before : History) → MayCome before act → IsEntered format before act → EntriesFollow format before → ((txn : ℕ) → IsCommitOf act txn → EachFollows format (act ∷ before) (pending_of before txn)) → EntriesFollow format (act ∷ before)
 keeps_entries format (changes c) before may entered follow committed page =
@@ -100,4 +100,4 @@ keeps_entries format (ends f) before may entered follow committed page =
         | inr other ↦ inr (some.0, others_follow page some.0 f.txn before other some.1)
       ]
     ]
-keeps_entries format (lists l) before may entered follow committed page = follow page
+keeps_entries format (marks m) before may entered follow committed page = follow page

@@ -3,7 +3,7 @@ use Rattle.std.proofs.Common.{◌≡◌, ℕ, ◌+◌, ◌<◌, List, [], ◌∷
 use Rattle.std.proofs.lemmas.List.{take_more, take-append-drop}
 use Rattle.rm_types.specs.declared.numbers.Rid.{Rid}
 use Rattle.rm_record.specs.declared.records.Logged.{Logged}
-use Rattle.rm_history.specs.Acts.{Act, History, changes, undoes, enters, commits, ends, lists, act_of, acts_onto, acts_of}
+use Rattle.rm_history.specs.Acts.{Act, History, changes, undoes, enters, commits, ends, marks, act_of, acts_onto, acts_of}
 use Rattle.rm_history.specs.Transactions.{HasRecord, HasChange}
 
 -- a record behind a log is the newest of its history
@@ -40,7 +40,7 @@ has_change_stays txn rid (undoes u) before has = has
 has_change_stays txn rid (enters e) before has = has
 has_change_stays txn rid (commits f) before has = has
 has_change_stays txn rid (ends f) before has = has
-has_change_stays txn rid (lists l) before has = has
+has_change_stays txn rid (marks m) before has = has
 
 has_record_stays : (txn : ℕ) (act : Act) (before : History) → HasRecord before txn → HasRecord (act ∷ before) txn
 has_record_stays txn (changes c) before has = inr has
@@ -48,7 +48,7 @@ has_record_stays txn (undoes u) before has = inr has
 has_record_stays txn (enters e) before has = inr has
 has_record_stays txn (commits f) before has = inr has
 has_record_stays txn (ends f) before has = inr has
-has_record_stays txn (lists l) before has = has
+has_record_stays txn (marks m) before has = has
 
 pub log_has_change : (log : List Logged) (i : ℕ) (newest : Logged) (txn : ℕ) (rid : Rid) → i < length log → newest ≡ get_or log i newest
     → HasChange (act_of newest ∷ acts_of (take i log)) txn rid → HasChange (acts_of log) txn rid

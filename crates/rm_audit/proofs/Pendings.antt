@@ -1,7 +1,7 @@
 -- A transaction's pending changes among those of all transactions.
 use Rattle.std.proofs.Common.{◌≡◌, ℕ, ◌<◌, ◌≤◌, eqb, List, [], ◌∷◌, length, if◌then◌else◌, refl, sym, ap, ◌∙◌, inl, inr, arith}
 use Rattle.std.proofs.lemmas.Bool.{cases_eq, eq-eqb, ne_eqb}
-use Rattle.rm_history.specs.Acts.{Change, History, changes, undoes, enters, commits, ends, lists}
+use Rattle.rm_history.specs.Acts.{Change, History, changes, undoes, enters, commits, ends, marks}
 use Rattle.rm_history.specs.Pending.{older, without_newest, without, all_pending, pending_of}
 use Rattle.rm_audit.specs.Parts.{of_txn, IsLed}
 
@@ -74,4 +74,4 @@ pending_is (undoes u ∷ before) txn = undo txn u.txn (all_pending before) (pend
 pending_is (enters e ∷ before) txn = pending_is before txn
 pending_is (commits f ∷ before) txn = finish txn f.txn (all_pending before) (pending_of before txn) (pending_is before txn)
 pending_is (ends f ∷ before) txn = finish txn f.txn (all_pending before) (pending_of before txn) (pending_is before txn)
-pending_is (lists l ∷ before) txn = pending_is before txn
+pending_is (marks m ∷ before) txn = pending_is before txn

@@ -3,7 +3,7 @@ use Rattle.std.proofs.Common.{◌≡◌, ℕ, zero, suc, ◌≤◌, eqb, if◌th
 use Rattle.std.proofs.lemmas.Bool.{cases_eq, eq-eqb, ne_eqb}
 use Rattle.rm_types.specs.declared.slots.Slot.{Slot}
 use Rattle.rm_model.specs.Pages.{used}
-use Rattle.rm_history.specs.Acts.{Act, Change, Undo, History, changes, undoes, enters, commits, ends, lists}
+use Rattle.rm_history.specs.Acts.{Act, Change, Undo, History, changes, undoes, enters, commits, ends, marks}
 use Rattle.rm_history.specs.Contents.{page_of}
 use Rattle.rm_history.specs.Pending.{pending_of}
 use Rattle.rm_history.specs.Needs.{on_page, need_for, need_of, sum_below, Fits}
@@ -75,4 +75,4 @@ keeps_room (undoes u) before may fits set page =
 keeps_room (enters e) before may fits set page = fits page
 keeps_room (commits f) before may fits set page = fits_with_less before (commits f ∷ before) page refl (λ txn. finish_needs page txn f.txn (pending_of before txn)) (fits page)
 keeps_room (ends f) before may fits set page = fits_with_less before (ends f ∷ before) page refl (λ txn. finish_needs page txn f.txn (pending_of before txn)) (fits page)
-keeps_room (lists l) before may fits set page = fits page
+keeps_room (marks m) before may fits set page = fits page

@@ -2,7 +2,7 @@
 use Rattle.std.specs.Prelude.{◌≡◌, ℕ, ◌<◌, [], ◌∷◌}
 use Rattle.rm_types.specs.declared.formats.Format.{Format}
 use Rattle.rm_types.specs.declared.places.Place.{Place}
-use Rattle.rm_history.specs.Acts.{Act, Change, Undo, Entry, Finish, Listing, History, changes, undoes, enters, commits, ends, lists, lsn_of, newest_lsn}
+use Rattle.rm_history.specs.Acts.{Act, Change, Undo, Entry, Finish, Listing, History, changes, undoes, enters, commits, ends, marks, lsn_of, newest_lsn}
 use Rattle.rm_history.specs.Contents.{slot_at, page_of, category_of, entry_of}
 use Rattle.rm_history.specs.Pending.{pending_of, last_of}
 use Rattle.rm_history.specs.Transactions.{IsFinished, HasRecord, HasChange}
@@ -19,7 +19,7 @@ IsOfFinished before (undoes u) = IsFinished before u.txn
 IsOfFinished before (enters e) = IsFinished before e.txn
 IsOfFinished before (commits f) = IsFinished before f.txn
 IsOfFinished before (ends f) = IsFinished before f.txn
-IsOfFinished before (lists l) = ⊥
+IsOfFinished before (marks m) = ⊥
 
 -- what a change may break
 abbrev pub ChangeBreaks : Illegal → History → Change → Type 0
@@ -63,7 +63,7 @@ ComingBreaks why before (undoes u) = UndoBreaks why before u
 ComingBreaks why before (enters e) = EntryBreaks why before e
 ComingBreaks why before (commits f) = ⊥
 ComingBreaks why before (ends f) = EndBreaks why before f
-ComingBreaks why before (lists l) = ListingBreaks why before l
+ComingBreaks why before (marks m) = ListingBreaks why before l
 
 -- The record breaks this condition behind these. What it asks of the inventory is broken by undoes and entries alone.
 abbrev pub Breaks : Format → Illegal → History → Act → Type 0

@@ -5,7 +5,7 @@ use Rattle.rm_types.specs.declared.formats.Format.{Format}
 use Rattle.rm_types.specs.declared.places.Place.{Place}
 use Rattle.rm_types.specs.declared.slots.TheConstants.{CAPACITY}
 use Rattle.rm_model.specs.Pages.{used}
-use Rattle.rm_history.specs.Acts.{Act, Change, History, changes, undoes, enters, commits, ends, lists}
+use Rattle.rm_history.specs.Acts.{Act, Change, History, changes, undoes, enters, commits, ends, marks}
 use Rattle.rm_history.specs.Contents.{page_of, entry_of, category_of}
 use Rattle.rm_history.specs.Pending.{without_newest}
 use Rattle.rm_history.specs.Needs.{on_page, need_for, need_of, sum_below}
@@ -19,7 +19,7 @@ change_in (undoes u) = None
 change_in (enters e) = None
 change_in (commits f) = None
 change_in (ends f) = None
-change_in (lists l) = None
+change_in (marks m) = None
 
 -- the page whose slot a record sets, if it sets one
 abbrev pub page_in : Act → Option ℕ
@@ -28,7 +28,7 @@ page_in (undoes u) = Some u.rid.page
 page_in (enters e) = None
 page_in (commits f) = None
 page_in (ends f) = None
-page_in (lists l) = None
+page_in (marks m) = None
 
 -- the changes that are of a transaction
 abbrev pub of_txn : ℕ → List Change → List Change

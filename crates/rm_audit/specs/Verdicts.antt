@@ -3,7 +3,7 @@ use Rattle.std.specs.Prelude.{◌≡◌, List, [], ◌∷◌, ◌++◌, Option, 
 use Rattle.rm_types.specs.declared.formats.Format.{Format}
 use Rattle.rm_types.specs.declared.numbers.Lsn.{Lsn}
 use Rattle.rm_record.specs.declared.records.Logged.{Logged}
-use Rattle.rm_history.specs.Acts.{Act, History, changes, undoes, enters, commits, ends, lists, act_of, acts_of}
+use Rattle.rm_history.specs.Acts.{Act, History, changes, undoes, enters, commits, ends, marks, act_of, acts_of}
 use Rattle.rm_history.specs.Legal.{IsLegal}
 use Rattle.rm_audit.specs.declared.verdicts.Illegal.{Illegal}
 use Rattle.rm_audit.specs.declared.verdicts.Illegal.TheVariants as why
@@ -16,7 +16,7 @@ coming_of (undoes u) = why.Finished ∷ why.Undone ∷ why.Rid ∷ why.Next ∷ 
 coming_of (enters e) = why.Finished ∷ why.NoChange ∷ []
 coming_of (commits f) = why.Finished ∷ []
 coming_of (ends f) = why.Finished ∷ why.StillPending ∷ []
-coming_of (lists l) = why.NextId ∷ why.Forgotten ∷ why.TooMany ∷ why.LoserPlace ∷ []
+coming_of (marks m) = why.NextId ∷ why.Forgotten ∷ why.TooMany ∷ why.LoserPlace ∷ []
 
 -- those of what it asks of the inventory
 abbrev pub entering_of : Act → List Illegal
@@ -25,7 +25,7 @@ entering_of (undoes u) = why.Entry ∷ []
 entering_of (enters e) = why.SameCategory ∷ why.WrongCategory ∷ []
 entering_of (commits f) = []
 entering_of (ends f) = []
-entering_of (lists l) = []
+entering_of (marks m) = []
 
 -- all of a record's conditions
 abbrev pub conditions_of : Act → List Illegal

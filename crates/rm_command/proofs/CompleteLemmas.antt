@@ -4,12 +4,12 @@ use Rattle.std.proofs.lemmas.Bool.{true≢false}
 use Rattle.std.specs.Prelude.{MatchBool}
 use Rattle.rm_types.specs.declared.areas.Area.{Area}
 use Rattle.rm_types.specs.declared.areas.Area.TheVariants.{Log}
-use Rattle.rm_types.specs.declared.lines.Line.{Line}
-use Rattle.rm_types.specs.declared.lines.Which.TheVariants as which
+use Rattle.rm_script.specs.declared.lines.Line.{Line}
+use Rattle.rm_script.specs.declared.lines.Which.TheVariants as which
 use Rattle.rm_outside.specs.Images.{Image}
-use Rattle.rm_model.specs.Session.{State}
-use Rattle.rm_model.specs.Grammar.{IsTurns, IsWithinLimits}
-use Rattle.rm_model.proofs.Turns.{none_wrong}
+use Rattle.rm_session.specs.Session.{State}
+use Rattle.rm_script.specs.Grammar.{IsTurns, IsWithinLimits}
+use Rattle.rm_script.proofs.Turns.{none_wrong}
 use Rattle.rm_types.specs.declared.operations.Reply.{Reply}
 use Rattle.rm_history.specs.Logs.{Batch}
 use Rattle.rm_history.specs.Pending.{pending_of}
@@ -33,7 +33,7 @@ use Rattle.rm_command.proofs.PlainLemmas.{plain_done}
 -- what a settled volume has needs no undo
 settled : (told : Type 0) (content : Image) (id : ℕ) → NeedsUndoOf told content id → told → IsSettled content → ⊥
 settled told content id needs tells calm =
-    let same = log_once (content Log) needs.batches calm.sound.batches (needs.read.has_log tells) calm.sound.image.log in
+    let same = log_once (content Log) needs.batches calm.image.batches (needs.read.has_log tells) calm.image.sound.has_log in
     needs.pends (subst (λ (b : List Batch). pending_of (acts_of_batches b) id ≡ []) (sym same) (calm.none id))
 
 module _ (told : Type 0) (content : Image) (risen : Area → Type 0) (tells : told) (well : (area : Area) → risen area → ⊥) where
@@ -58,8 +58,8 @@ module _ (told : Type 0) (content : Image) (risen : Area → Type 0) (tells : to
   opened : (answer : Status) (text : List ℕ) → IsSettled content → RefusedText told content risen answer text → answer ≡ status.NoMemory
   opened status.NoMemory text calm due = refl
   opened (status.Volume area) text calm due = absurd (well area due.0)
-  opened status.NotMade text calm due = absurd (sound_is_made content (due.0 tells) calm.sound)
-  opened (status.Damaged area at) text calm due = absurd (sound_is_not_damaged content area at (due.1 tells) calm.sound)
+  opened status.NotMade text calm due = absurd (sound_is_made content (due.0 tells) calm.image)
+  opened (status.Damaged area at) text calm due = absurd (sound_is_not_damaged content area at (due.1 tells) calm.image)
   opened (status.NeedsUndo txn) text calm due = absurd (settled told content txn.0 due.0 tells calm)
   opened status.Done text calm due = absurd due
   opened status.Usage text calm due = absurd due

@@ -5,8 +5,8 @@ use Rattle.std.proofs.Math.Dec.{eqb-zero-suc}
 use Rattle.std.specs.List.{AllByRecursion}
 use Rattle.std.proofs.lemmas.List.{get_or-append-add}
 use Rattle.rm_types.specs.declared.areas.Area.TheVariants as area
-use Rattle.rm_types.specs.declared.lines.Line.{Line}
-use Rattle.rm_types.specs.declared.lines.Line.TheVariants as line
+use Rattle.rm_script.specs.declared.lines.Line.{Line}
+use Rattle.rm_script.specs.declared.lines.Line.TheVariants as line
 use Rattle.rm_types.specs.declared.numbers.Rid.{Rid}
 use Rattle.rm_types.specs.declared.operations.Reply.{Reply}
 use Rattle.rm_types.specs.declared.operations.Reply.TheVariants as reply
@@ -29,7 +29,7 @@ use Rattle.rm_history.proofs.Readings.{log_once}
 use Rattle.rm_restart.specs.Plain.{ArePlain}
 use Rattle.rm_restart.specs.Sound.{IsSoundLog, Holds}
 use Rattle.rm_restart.proofs.PlainLaws.{plain_fits}
-use Rattle.rm_restart.proofs.Soundness.{fresh_is_sound}
+use Rattle.rm_restart.proofs.Soundness.{fresh_is_sound, plain_image}
 use Rattle.rm_engine.specs.Runs.{HasAcknowledged}
 
 -- no rows
@@ -74,7 +74,7 @@ made_holds = (fresh_is_sound 1 made made_fresh).0
 
 pub made_count : (count : ℕ) (rows : Rows) → Holds count rows made → count ≡ 0
 made_count count rows held =
-    let same : held.sound.batches ≡ [] = log_once (made area.Log) held.sound.batches [] held.sound.image.log (record { stands = tt; closed = made_fresh.cleared.gate }) in
+    let same : held.image.batches ≡ [] = log_once (made area.Log) held.image.batches [] held.image.sound.has_log (record { stands = tt; closed = made_fresh.cleared.gate }) in
     sym held.commits_are ∙ ap (λ (batches : List Batch). commit_count (acts_of_batches batches)) same
 
 -- the same volume with a log of one batch: a transaction inserted a row and committed
@@ -135,7 +135,7 @@ inserted = (record { row = row; before_is = refl; after_is = refl }, tt)
 
 logged_sound : IsSoundLog 1 (batch ∷ [])
 logged_sound = record {
-  in_order = (
+  rules = ((
     (
       tt,
       record {
@@ -145,8 +145,7 @@ logged_sound = record {
       },
     ),
     record { above = lit< tt; may_come = λ is. is; fits = plain_fits (commit ∷ insert ∷ []) (tt, inserted) fits },
-  );
-  plain = (tt, inserted);
+  ), (tt, inserted));
   below = (tt, (lit< tt, tt));
   room = lit≤ tt;
 }
@@ -154,19 +153,16 @@ logged_sound = record {
 -- it holds that commit and its row, and no other number of commits
 pub logged_holds : Holds 1 (with_row none first row) logged
 logged_holds = record {
-  sound = record {
-    pages = 1;
-    batches = batch ∷ [];
-    image = record { fields = fresh_fields 1; master = made_fresh.fields; size = refl; checkpoint = refl; log = logged_has_log };
-    sound_log = logged_sound;
-  };
+  image = plain_image 1 (batch ∷ []) logged
+      (record { fields = fresh_fields 1; master = made_fresh.fields; size = refl; checkpoint = refl; half = refl; log = logged_has_log })
+      logged_sound;
   commits_are = refl;
   rows_are = refl;
 }
 
 pub logged_count : (count : ℕ) (rows : Rows) → Holds count rows logged → count ≡ 1
 logged_count count rows held =
-    let same : held.sound.batches ≡ batch ∷ [] = log_once (logged area.Log) held.sound.batches (batch ∷ []) held.sound.image.log logged_has_log in
+    let same : held.image.batches ≡ batch ∷ [] = log_once (logged area.Log) held.image.batches (batch ∷ []) held.image.sound.has_log logged_has_log in
     sym held.commits_are ∙ ap (λ (batches : List Batch). commit_count (acts_of_batches batches)) same
 
 -- behind a run that was told of its commit the image with it may be left, and the one without it may not

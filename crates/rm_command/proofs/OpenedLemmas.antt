@@ -3,7 +3,7 @@ use Rattle.std.proofs.Common.{◌≡◌, inl, inr, ℕ, Bool, true, false, List,
 use Rattle.std.specs.Prelude.{MatchBool}
 use Rattle.rm_types.specs.declared.areas.Area.{Area}
 use Rattle.rm_types.specs.declared.faults.Fault.TheVariants as fault
-use Rattle.rm_types.specs.declared.lines.Line.{Line}
+use Rattle.rm_script.specs.declared.lines.Line.{Line}
 use Rattle.rm_types.specs.declared.slots.Slot.{Slot}
 use Rattle.rm_types.specs.declared.numbers.TheConstants.{MAX_LOG}
 use Rattle.rm_types.specs.declared.numbers.TxnId.{TxnId}
@@ -14,7 +14,7 @@ use Rattle.rm_outside.specs.Moments.{LeavesOnly, joined, weaker}
 use Rattle.rm_outside.specs.Streams.{Takes}
 use Rattle.rm_outside.proofs.StreamLemmas.{Takes-append}
 use Rattle.rm_model.specs.Object.{Rows}
-use Rattle.rm_model.specs.Session.{State, opened}
+use Rattle.rm_session.specs.Session.{State, opened}
 use Rattle.rm_master.specs.Slots.{IsUnmade}
 use Rattle.rm_history.specs.Logs.{Batch}
 use Rattle.rm_history.specs.Rows.{rows_of_log}
@@ -22,7 +22,7 @@ use Rattle.rm_history.specs.Counts.{commit_count}
 use Rattle.rm_history.specs.Batched.{acts_of_batches}
 use Rattle.rm_wal.specs.Tails.{LogValue}
 use Rattle.rm_restart.specs.Opening.{Opens, NeedsUndoOf, IsDamage}
-use Rattle.rm_restart.specs.Sound.{IsImageOf, IsSound}
+use Rattle.rm_restart.specs.Sound.{IsImageOf, IsPlainImage}
 use Rattle.rm_restart.specs.declared.faults.RestartFault.{RestartFault}
 use Rattle.rm_restart.specs.declared.faults.RestartFault.TheVariants as restart
 use Rattle.rm_restart.proofs.Soundness.{opened_is_sound}
@@ -84,11 +84,11 @@ module _ (told : Type 0) (content : Image) (left half_left leaves : Image → Ty
     (session : engine.session ≡ opened pages next) (log_is : engine.log ≡ log) (under : engine.under.0 ≡ 0) (inserts : engine.inserts ≡ 0)
     (synced : (c : Image) → half_left c → c ≡ content) (time : LeavesOnly before mid past half left) (then_risen : (area : Area) → risen area → later area) where
   -- from a sound content on the images are those of the run
-  run_images : (done : List Line) (replies : List Reply) (asked : Option Line) → LeavesRun engine half_left leaves mid now half since done replies asked → told → (sound : IsSound content)
-      → HasRunImages (commit_count (acts_of_batches sound.batches)) (rows_of_log (acts_of_batches sound.batches)) left leaves before now past since done replies asked
-  run_images done replies asked leaves_run tells sound =
-      let read = opened_is_sound told content MAX_LOG pages next log inserted opens tells sound in
-      let at = at_opened told content MAX_LOG pages next log inserted opens half_left read.sound_log (λ c may. subst (λ (image : Image). IsImageOf opens.fields.pages opens.batches image) (sym (synced c may)) read.image) in
+  run_images : (done : List Line) (replies : List Reply) (asked : Option Line) → LeavesRun engine half_left leaves mid now half since done replies asked → told → (image : IsPlainImage content)
+      → HasRunImages (commit_count (acts_of_batches image.batches)) (rows_of_log (acts_of_batches image.batches)) left leaves before now past since done replies asked
+  run_images done replies asked leaves_run tells image =
+      let read = opened_is_sound told content MAX_LOG pages next log inserted opens tells image in
+      let at = at_opened told content MAX_LOG pages next log inserted opens half_left read.sound_log (λ c may. subst (λ (image : Image). IsImageOf opens.fields.pages opens.batches image) (sym (synced c may)) read.image_of) in
       let standing = at_engine engine pages next log opens.fields.pages (commit_count (acts_of_batches opens.batches)) (rows_of_log (acts_of_batches opens.batches)) half_left session log_is under inserts at in
       let idle : engine.session.core.active ≡ false = ap (λ (s : State). s.core.active) session in
       let run = leaves_run opens.fields.pages (commit_count (acts_of_batches opens.batches)) (rows_of_log (acts_of_batches opens.batches)) standing idle in
@@ -96,8 +96,8 @@ module _ (told : Type 0) (content : Image) (left half_left leaves : Image → Ty
       (record { any_moment = joined (weaker time (λ c l. inl l)) (weaker run.0 (λ c has. inr has)); durable = run.1 })
 
   abbrev Leaves : List Line → List Reply → Option Line → Type 0
-  Leaves done replies asked = told → (sound : IsSound content)
-      → HasRunImages (commit_count (acts_of_batches sound.batches)) (rows_of_log (acts_of_batches sound.batches)) left leaves before now past since done replies asked
+  Leaves done replies asked = told → (image : IsPlainImage content)
+      → HasRunImages (commit_count (acts_of_batches image.batches)) (rows_of_log (acts_of_batches image.batches)) left leaves before now past since done replies asked
 
   pub lines_due : (answer : Status) (text : List ℕ) → RunText engine.session (used_by engine) lines (LeavesRun engine half_left leaves mid now half since) risen answer text
       → LinesDue told content left leaves before now past since later lines answer text

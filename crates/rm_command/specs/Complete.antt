@@ -1,12 +1,12 @@
 -- How a command ends where nothing fails.
 use Rattle.std.specs.Prelude.{◌≡◌, ℕ, List, [], Option, Some, None, ◌⊎◌}
-use Rattle.rm_types.specs.declared.lines.Line.{Line}
+use Rattle.rm_script.specs.declared.lines.Line.{Line}
 use Rattle.rm_types.specs.declared.numbers.TxnId.{TxnId}
 use Rattle.rm_outside.specs.Images.{Image}
-use Rattle.rm_model.specs.Grammar.{IsPlain, IsTurns, IsWithinLimits}
+use Rattle.rm_script.specs.Grammar.{IsPlain, IsTurns, IsWithinLimits}
 use Rattle.rm_history.specs.Pending.{pending_of}
 use Rattle.rm_history.specs.Batched.{acts_of_batches}
-use Rattle.rm_restart.specs.Sound.{IsSound}
+use Rattle.rm_restart.specs.Sound.{IsPlainImage}
 use Rattle.rm_command.specs.declared.commands.Command.{Command}
 use Rattle.rm_command.specs.declared.commands.Command.TheVariants as command
 use Rattle.rm_command.specs.declared.statuses.Status.{Status}
@@ -23,8 +23,8 @@ IsDoneOrRefused answer = IsDone answer ⊎ (((end : ℕ) × (answer ≡ status.L
 
 -- the volume is sound, and each transaction that its log has inserts of is committed
 pub record IsSettled (content : Image) : Type 0 where
-  pub sound : IsSound content
-  pub none : (id : ℕ) → pending_of (acts_of_batches sound.batches) id ≡ []
+  pub image : IsPlainImage content
+  pub none : (id : ℕ) → pending_of (acts_of_batches image.batches) id ≡ []
 
 -- With a right script, and a volume that is settled, or not made for `create`, a command is done, but for want of
 -- memory; `turns` also but for want of log room or of ids.

@@ -1,8 +1,8 @@
 -- What is due for `turns`.
 use Rattle.std.specs.Prelude.{◌≡◌, ℕ, ◌+◌, ◌-◌, ◌≤◌, List, [], ◌++◌, length, take, slice_get, Option, Some, ◌⊎◌, if◌then◌else◌}
 use Rattle.rm_types.specs.declared.areas.Area.{Area}
-use Rattle.rm_types.specs.declared.lines.Line.{Line}
-use Rattle.rm_types.specs.declared.lines.Line.TheVariants as line
+use Rattle.rm_script.specs.declared.lines.Line.{Line}
+use Rattle.rm_script.specs.declared.lines.Line.TheVariants as line
 use Rattle.rm_types.specs.declared.operations.Reply.{Reply}
 use Rattle.rm_types.specs.declared.slots.Slot.{Slot}
 use Rattle.rm_types.specs.declared.numbers.TheConstants.{MAX_LOG}
@@ -10,15 +10,15 @@ use Rattle.rm_types.specs.declared.numbers.TxnId.{TxnId}
 use Rattle.rm_outside.specs.Images.{Image}
 use Rattle.rm_outside.specs.Moments.{LeavesOnly}
 use Rattle.rm_model.specs.Object.{Rows}
-use Rattle.rm_model.specs.Session.{State, opened}
-use Rattle.rm_model.specs.Grammar.{IsTurns, IsFirstWrongTurns, IsWithinLimits}
-use Rattle.rm_model.specs.Texts.{turn_lines, unfinished_line}
+use Rattle.rm_session.specs.Session.{State, opened}
+use Rattle.rm_script.specs.Grammar.{IsTurns, IsFirstWrongTurns, IsWithinLimits}
+use Rattle.rm_script.specs.Texts.{turn_lines, unfinished_line}
 use Rattle.rm_history.specs.Rows.{rows_of_log}
 use Rattle.rm_history.specs.Counts.{commit_count}
 use Rattle.rm_history.specs.Batched.{acts_of_batches}
 use Rattle.rm_script.specs.Refusals.{HasTooMuch}
 use Rattle.rm_wal.specs.Tails.{LogValue}
-use Rattle.rm_restart.specs.Sound.{IsSound}
+use Rattle.rm_restart.specs.Sound.{IsPlainImage}
 use Rattle.rm_restart.specs.Opening.{Opens}
 use Rattle.rm_engine.specs.Numbers.{Used, used_of, LacksRoom, LacksIds}
 use Rattle.rm_engine.specs.Runs.{LoggedRun, acknowledged, HasFirst, HasAcknowledged}
@@ -95,8 +95,8 @@ pub record OpenedText (told : Type 0) (content : Image) (left leaves : Image →
   pub log : LogValue
   pub inserted : ℕ
   pub opens : Opens told content MAX_LOG pages next log inserted
-  pub written : RunText (opened pages next) (used_of log 0) lines (λ done replies asked. told → (sound : IsSound content)
-      → HasRunImages (commit_count (acts_of_batches sound.batches)) (rows_of_log (acts_of_batches sound.batches)) left leaves before now past since done replies asked) risen answer text
+  pub written : RunText (opened pages next) (used_of log 0) lines (λ done replies asked. told → (image : IsPlainImage content)
+      → HasRunImages (commit_count (acts_of_batches image.batches)) (rows_of_log (acts_of_batches image.batches)) left leaves before now past since done replies asked) risen answer text
 
 -- what is due for the lines of a script
 abbrev pub LinesDue : Type 0 → Image → (Image → Type 0) → (Image → Type 0) → ℕ → ℕ → (ℕ → Image → Type 0) → (ℕ → Image → Type 0) → (Area → Type 0) → List Line → Status → List ℕ → Type 0

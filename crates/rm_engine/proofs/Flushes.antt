@@ -10,7 +10,8 @@ use Rattle.rm_types.specs.declared.numbers.Rid.{Rid}
 use Rattle.rm_types.specs.declared.numbers.TxnId.{TxnId}
 use Rattle.rm_outside.specs.Images.{Bytes, Image}
 use Rattle.rm_model.specs.Object.{Rows}
-use Rattle.rm_model.specs.Session.{rows_of, set_row, IsPlaceFor, Core}
+use Rattle.rm_model.specs.Files.{rows_of, set_row}
+use Rattle.rm_session.specs.Session.{IsPlaceFor, Core}
 use Rattle.rm_record.specs.declared.records.LogRecord.{LogRecord}
 use Rattle.rm_record.specs.declared.records.LogRecord.TheVariants.{Insert, Commit}
 use Rattle.rm_record.specs.Records.{spelling, spelling_all, IsRecord}
@@ -20,12 +21,13 @@ use Rattle.rm_history.specs.Acts.{act_at, newest_lsn}
 use Rattle.rm_history.specs.Rows.{rows_of_log}
 use Rattle.rm_history.specs.Counts.{commit_count}
 use Rattle.rm_history.specs.Batched.{acts_of_batches}
-use Rattle.rm_history.proofs.Behind.{acts_behind-snoc, newest_below, newest_of_batches}
+use Rattle.rm_history.proofs.Appending.{acts_after-snoc, newest_below, newest_of_batches}
 use Rattle.rm_wal.specs.Tails.{LogValue, end_of}
 use Rattle.rm_wal.specs.Flushing.{ComesByFlush, Tails, HasEither, written_tail}
 use Rattle.rm_master.specs.Slots.{HasFields}
 use Rattle.rm_restart.specs.Sound.{IsImageOf, IsSoundLog, Holds}
 use Rattle.rm_restart.proofs.PlainUndo.{undo_bytes-one, undo_bytes-none}
+use Rattle.rm_restart.proofs.Soundness.{plain_image}
 use Rattle.rm_engine.specs.Numbers.{IsReady}
 use Rattle.rm_engine.specs.At.{IsAtHistory, IsAt, whole_history}
 use Rattle.rm_engine.proofs.Steps.{begun, inserted, committed}
@@ -37,13 +39,14 @@ image_with_log pages batches others d c image same has = record {
   master = subst (λ (area : Bytes). HasFields area image.fields) (sym same) image.master;
   size = image.size;
   checkpoint = image.checkpoint;
+  half = image.half;
   log = has;
 }
 
 pub holds_of : (pages count : ℕ) (rows : Rows) (batches : List Batch) (c : Image) → IsImageOf pages batches c → IsSoundLog pages batches
     → commit_count (acts_of_batches batches) ≡ count → rows_of_log (acts_of_batches batches) ≡ rows → Holds count rows c
 holds_of pages count rows batches c image sound counted same = record {
-  sound = record { pages = pages; batches = batches; image = image; sound_log = sound };
+  image = plain_image pages batches c image sound;
   commits_are = counted;
   rows_are = same;
 }
@@ -77,8 +80,7 @@ module _ (pages count : ℕ) (rows : Rows) (core : Core) (log : LogValue) (under
       let open_now = at.at_history.busy active in
       let undo = undo_bytes-one (whole_history at.batches at.tail) at.at_history.in_order at.at_history.plain (core.next - 1) open_now.others in
       record {
-        in_order = at.at_history.in_order;
-        plain = at.at_history.plain;
+        rules = (at.at_history.in_order, at.at_history.plain);
         below = at.at_history.below;
         room = omega (arith, undo, open_now.inserts_are, end_is, ready.room_behind active some, ready.limit);
       }
@@ -140,7 +142,7 @@ module _ (pages count : ℕ) (rows : Rows) (core : Core) (log : LogValue) (under
   grown : (lsn : ℕ) (next : LogRecord) → lsn ≡ end_of log → whole_history at.batches (at.tail ++ next ∷ []) ≡ act_at lsn next ∷ whole_history at.batches at.tail
   grown lsn next is =
       let same : gate_of at.batches + BATCH_HEADER + length (spelling_all at.tail) ≡ lsn = next_lsn ∙ sym is in
-      acts_behind-snoc (acts_of_batches at.batches) (gate_of at.batches + BATCH_HEADER) at.tail next
+      acts_after-snoc (acts_of_batches at.batches) (gate_of at.batches + BATCH_HEADER) at.tail next
       ∙ ap (λ (n : ℕ). act_at n next ∷ whole_history at.batches at.tail) same
 
   -- a row is put, and its record is in the tail
@@ -195,8 +197,7 @@ module _ (pages count : ℕ) (rows : Rows) (core : Core) (log : LogValue) (under
         let none = undo_bytes-none (whole_history at.batches closing) after.in_order after.plain (after.idle refl).none in
         let size : length (log.tail ++ spelling (Commit txn)) ≡ length log.tail + 5 = length-append log.tail (spelling (Commit txn)) in
         record {
-          in_order = after.in_order;
-          plain = after.plain;
+          rules = (after.in_order, after.plain);
           below = after.below;
           room = omega (arith, none, end_closing, size, ready.room active, ready.limit);
         }

@@ -11,11 +11,12 @@ use Rattle.rm_types.specs.declared.slots.Slot.TheVariants.{Vacant, Row}
 use Rattle.rm_types.specs.declared.slots.TheConstants.{CAPACITY, SLOT_ENTRY}
 use Rattle.rm_model.specs.Pages.{used, set_slot}
 use Rattle.rm_model.specs.Object.{Rows, with_row}
-use Rattle.rm_model.specs.Session.{page_at, rows_of, set_row, IsPlaceFor, Core}
+use Rattle.rm_model.specs.Files.{page_at, rows_of, set_row}
+use Rattle.rm_session.specs.Session.{IsPlaceFor, Core}
 use Rattle.rm_model.proofs.Slots.{used-set_slot_end}
-use Rattle.rm_model.proofs.Runs.{rows_of-set_row}
+use Rattle.rm_model.proofs.FileLaws.{rows_of-set_row}
 use Rattle.rm_record.specs.declared.records.LogRecord.TheVariants.{Insert, Commit}
-use Rattle.rm_history.specs.Acts.{Change, History, changes, undoes, enters, commits, ends, lists, act_at, newest_lsn}
+use Rattle.rm_history.specs.Acts.{Change, History, changes, undoes, enters, commits, ends, marks, act_at, newest_lsn}
 use Rattle.rm_history.specs.Contents.{page_of}
 use Rattle.rm_history.specs.Pending.{pending_of, last_of}
 use Rattle.rm_history.specs.Transactions.{greatest_txn, IsFinished}
@@ -36,7 +37,7 @@ finished_greatest (commits f ∷ before) id (inl now) = omega (arith, now)
 finished_greatest (commits f ∷ before) id (inr earlier) = omega (arith, finished_greatest before id earlier)
 finished_greatest (ends f ∷ before) id (inl now) = omega (arith, now)
 finished_greatest (ends f ∷ before) id (inr earlier) = omega (arith, finished_greatest before id earlier)
-finished_greatest (lists l ∷ before) id finished = finished_greatest before id finished
+finished_greatest (marks m ∷ before) id finished = finished_greatest before id finished
 
 module _ (file_pages count : ℕ) (rows : Rows) (core : Core) (under inserts : ℕ) (history : History) (at : IsAtHistory file_pages count rows core under inserts history) where
   -- a transaction is begun

@@ -2,13 +2,14 @@
 use Rattle.std.specs.Prelude.{◌≡◌, ℕ, ◌+◌, ◌-◌, ◌<◌, true, false, List, [], length, ◌⊎◌}
 use Rattle.std.specs.List.{AllByRecursion}
 use Rattle.rm_types.specs.declared.slots.Slot.{Slot}
-use Rattle.rm_types.specs.declared.lines.Line.{Line}
-use Rattle.rm_types.specs.declared.lines.Line.TheVariants as line
+use Rattle.rm_script.specs.declared.lines.Line.{Line}
+use Rattle.rm_script.specs.declared.lines.Line.TheVariants as line
 use Rattle.rm_types.specs.declared.operations.Reply.{Reply}
 use Rattle.rm_types.specs.declared.operations.Reply.TheVariants as reply
 use Rattle.rm_outside.specs.Images.{Image}
 use Rattle.rm_model.specs.Object.{Rows}
-use Rattle.rm_model.specs.Session.{page_at, rows_of, set_row, IsPlaceFor, Core}
+use Rattle.rm_model.specs.Files.{page_at, rows_of, set_row}
+use Rattle.rm_session.specs.Session.{IsPlaceFor, Core}
 use Rattle.rm_record.specs.Records.{spelling_all, IsRecord}
 use Rattle.rm_wal.specs.Tails.{LogValue}
 use Rattle.rm_history.specs.declared.TheConstants.{BATCH_HEADER}
@@ -20,7 +21,7 @@ use Rattle.rm_history.specs.Transactions.{greatest_txn, IsFinished}
 use Rattle.rm_history.specs.Rows.{applied, rows_of_log}
 use Rattle.rm_history.specs.Counts.{commit_count}
 use Rattle.rm_history.specs.Rules.{IsInOrder}
-use Rattle.rm_history.specs.Batched.{acts_behind, acts_of_batches, AreBelow}
+use Rattle.rm_history.specs.Batched.{acts_after, acts_of_batches, AreBelow}
 use Rattle.rm_restart.specs.Plain.{ArePlain}
 use Rattle.rm_restart.specs.Sound.{IsImageOf, IsSoundLog, Holds}
 
@@ -52,7 +53,7 @@ pub record IsAtHistory (file_pages count : ℕ) (rows : Rows) (core : Core) (und
 
 -- the history of the batches that stand, and of the tail behind them
 abbrev pub whole_history : List Batch → Batch → History
-whole_history batches tail = acts_behind (acts_of_batches batches) (gate_of batches + BATCH_HEADER) tail
+whole_history batches tail = acts_after (acts_of_batches batches) (gate_of batches + BATCH_HEADER) tail
 
 -- The session stands behind so many commits, which left these rows; each image that a crash may leave has them.
 pub record IsAt (file_pages count : ℕ) (rows : Rows) (core : Core) (log : LogValue) (under inserts : ℕ) (left : Image → Type 0) : Type 0 where

@@ -1,7 +1,7 @@
 -- What a row id holds leads back, pending change by pending change, to its committed row; what this says of the last one.
 use Rattle.std.proofs.Common.{◌≡◌, inl, inr, ℕ, ◌<◌, List, [], ◌∷◌, length, refl, sym, subst}
 use Rattle.rm_types.specs.declared.numbers.Rid.{Rid}
-use Rattle.rm_history.specs.Acts.{Change, History, changes, undoes, enters, commits, ends, lists}
+use Rattle.rm_history.specs.Acts.{Change, History, changes, undoes, enters, commits, ends, marks}
 use Rattle.rm_history.specs.Contents.{slot_at, page_of}
 use Rattle.rm_history.specs.Pending.{pending_of}
 use Rattle.rm_history.specs.Transactions.{IsFinished}
@@ -20,7 +20,7 @@ all_lead (undoes u ∷ before) ordered rid txn alone = all_lead-undo u before or
 all_lead (enters e ∷ before) ordered rid txn alone = all_lead before ordered.0 rid txn alone
 all_lead (commits f ∷ before) ordered rid txn alone = all_lead-commit f before ordered.0 (all_lead before ordered.0) rid txn alone
 all_lead (ends f ∷ before) ordered rid txn alone = all_lead-end f before ordered.1.may_come (all_lead before ordered.0) rid txn alone
-all_lead (lists l ∷ before) ordered rid txn alone = all_lead before ordered.0 rid txn alone
+all_lead (marks m ∷ before) ordered rid txn alone = all_lead before ordered.0 rid txn alone
 
 pub leads_back : (history : History) → IsInOrder history → (rid : Rid) (txn : ℕ) → IsChanged (pending_of history txn) rid → LeadsFrom history rid txn
 leads_back history ordered rid txn changed = all_lead history ordered rid txn (alone_there history ordered rid txn changed)

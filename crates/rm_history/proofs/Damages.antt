@@ -73,7 +73,7 @@ module _ (area : Bytes) where
 
   no_wrong_record : (gate at : ℕ) (batch : Batch) → IsBatch gate batch → Shows area (gate + 1) (body_of batch) → HasWrongRecord area gate at → ⊥
   no_wrong_record gate at batch is body wrong =
-      let front = wrong.front in
+      let front = wrong.prefix in
       let n = length (spelling_all batch) in
       let head = to_be_bytes w32 wrong.len in
       let same : wrong.len ≡ n = length_once gate wrong.len batch (omega (arith, wrong.range.short)) is (shows_front head (spelling_all front) wrong.shown) body in
@@ -90,11 +90,11 @@ module _ (area : Bytes) where
       omega (arith, same, found_within front batch found) in
       wrong.none found.next found.is fits (subst (λ (m : ℕ). Shows area m (spelling found.next)) place there)
 
-  -- a wrong place behind some batches, of which the log has more or fewer
-  not_behind : (batches others : List Batch) (at : ℕ) → area (gate_of batches) ≡ 1 → HasWrongLength area (gate_of batches) at ⊎ HasWrongRecord area (gate_of batches) at → HasLog area others
+  -- a wrong place after some batches, of which the log has more or fewer
+  not_after : (batches others : List Batch) (at : ℕ) → area (gate_of batches) ≡ 1 → HasWrongLength area (gate_of batches) at ⊎ HasWrongRecord area (gate_of batches) at → HasLog area others
       → (more : List Batch) → others ≡ more ++ batches → ⊥
-  not_behind batches others at begun wrong has [] is = has.closed (ap (λ (b : List Batch). area (gate_of b)) is ∙ begun)
-  not_behind batches others at begun wrong has (next ∷ more) is =
+  not_after batches others at begun wrong has [] is = has.closed (ap (λ (b : List Batch). area (gate_of b)) is ∙ begun)
+  not_after batches others at begun wrong has (next ∷ more) is =
       let parts = last_of area next more in
       let split : others ≡ parts.0 ++ (parts.1 ∷ batches) = is ∙ ap (λ (l : List Batch). l ++ batches) parts.2 ∙ append_assoc parts.0 (parts.1 ∷ []) batches in
       let there : Stands area (parts.1 ∷ batches) = stands_front area parts.0 (parts.1 ∷ batches) (subst (Stands area) split has.stands) in
@@ -109,5 +109,5 @@ module _ (area : Bytes) where
         | inl found ↦
             let same : damaged.batches ≡ others = none_behind area damaged.batches others found.0 has.closed damaged.stands found.1 in
             has.closed (ap (λ (b : List Batch). area (gate_of b)) (sym same) ∙ damaged.begun)
-        | inr found ↦ not_behind damaged.batches others at damaged.begun damaged.wrong has found.0 found.1
+        | inr found ↦ not_after damaged.batches others at damaged.begun damaged.wrong has found.0 found.1
       ]

@@ -1,20 +1,11 @@
 -- The losers of a history are the transactions that have a record and are not finished.
 use Rattle.std.proofs.Common.{◌≡◌, ◌⊎◌, inl, inr, ℕ, ◌<◌, List, [], ◌∷◌, refl, sym, ap, subst, ◌∙◌, arith}
 use Rattle.std.proofs.lemmas.Bool.{cases_eq, cases_lt, eq-eqb, ne_eqb, lt-ltb, le-ltb}
-use Rattle.rm_history.specs.Acts.{History, changes, undoes, enters, commits, ends, lists}
+use Rattle.rm_history.specs.Acts.{History, changes, undoes, enters, commits, ends, marks}
 use Rattle.rm_history.specs.Transactions.{IsFinished, HasRecord}
 use Rattle.rm_history.specs.Rules.{IsInOrder}
-use Rattle.rm_history.specs.Losers.{with_number, without_number, losers_of}
-
--- the number is in the list
-abbrev pub IsAmong : List ℕ → ℕ → Type 0
-IsAmong [] n = ⊥
-IsAmong (first ∷ rest) n = (first ≡ n) ⊎ IsAmong rest n
-
--- each number of the list is above those before it
-abbrev pub Rise : List ℕ → Type 0
-Rise [] = Unit {0}
-Rise (first ∷ rest) = ((n : ℕ) → IsAmong rest n → first < n) × Rise rest
+use Rattle.rm_history.specs.Laws.{LosersAreUnfinished}
+use Rattle.rm_history.specs.Losers.{with_number, without_number, losers_of, IsAmong, AreRising}
 
 -- ---- a list with a number more, and without one
 
@@ -63,7 +54,7 @@ with_number-only n k (first ∷ rest) =
     ])
 
 -- numbers that rise are the same with one of them
-pub with_number-kept : (n : ℕ) (all : List ℕ) → Rise all → IsAmong all n → with_number n all ≡ all
+pub with_number-kept : (n : ℕ) (all : List ℕ) → AreRising all → IsAmong all n → with_number n all ≡ all
 with_number-kept n [] rise among = absurd among
 with_number-kept n (first ∷ rest) rise (inl here) = rw (le-ltb n first (omega (arith, here)), eq-eqb n first (sym here))
 with_number-kept n (first ∷ rest) rise (inr there) =
@@ -71,10 +62,10 @@ with_number-kept n (first ∷ rest) rise (inr there) =
     rw (le-ltb n first (omega arith), ne_eqb n first (λ same. let less : n ≡ first = same in absurd (omega arith))) (ap (λ (l : List ℕ). first ∷ l) (with_number-kept n rest rise.1 there))
 
 -- numbers that rise do so with one more
-with_number-rise : (n : ℕ) (all : List ℕ) → Rise all → Rise (with_number n all)
+with_number-rise : (n : ℕ) (all : List ℕ) → AreRising all → AreRising (with_number n all)
 with_number-rise n [] rise = (λ k. elim [ ], tt)
 with_number-rise n (first ∷ rest) rise =
-    with_number_cases Rise n first rest
+    with_number_cases AreRising n first rest
     (λ below. (λ k. elim [ inl here ↦ omega arith | inr there ↦ let more : first < k = rise.0 k there in omega arith ], rise))
     (λ same. rise)
     (λ above. (λ k among. elim (with_number-only n k rest among) [ inl is ↦ omega arith | inr had ↦ rise.0 k had ], with_number-rise n rest rise.1))
@@ -95,7 +86,7 @@ without_number-only n k (first ∷ rest) =
     (λ other. elim [ inl here ↦ inl here | inr there ↦ inr (without_number-only n k rest there) ])
 
 -- from numbers that rise it is gone
-without_number-gone : (n : ℕ) (all : List ℕ) → Rise all → IsAmong (without_number n all) n → ⊥
+without_number-gone : (n : ℕ) (all : List ℕ) → AreRising all → IsAmong (without_number n all) n → ⊥
 without_number-gone n [] rise = λ among. among
 without_number-gone n (first ∷ rest) rise =
     without_number_cases (λ l. IsAmong l n → ⊥) n first rest
@@ -103,22 +94,22 @@ without_number-gone n (first ∷ rest) rise =
     (λ other. elim [ inl here ↦ other (sym here) | inr there ↦ without_number-gone n rest rise.1 there ])
 
 -- and with one less
-without_number-rise : (n : ℕ) (all : List ℕ) → Rise all → Rise (without_number n all)
+without_number-rise : (n : ℕ) (all : List ℕ) → AreRising all → AreRising (without_number n all)
 without_number-rise n [] rise = tt
 without_number-rise n (first ∷ rest) rise =
-    without_number_cases Rise n first rest (λ same. rise.1) (λ other. (λ k among. rise.0 k (without_number-only n k rest among), without_number-rise n rest rise.1))
+    without_number_cases AreRising n first rest (λ same. rise.1) (λ other. (λ k among. rise.0 k (without_number-only n k rest among), without_number-rise n rest rise.1))
 
 -- ---- the losers of a history
 
 -- they stand in order of their ids, each once
-pub losers_rise : (history : History) → Rise (losers_of history)
+pub losers_rise : (history : History) → AreRising (losers_of history)
 losers_rise [] = tt
 losers_rise (changes c ∷ before) = with_number-rise c.txn (losers_of before) (losers_rise before)
 losers_rise (undoes u ∷ before) = with_number-rise u.txn (losers_of before) (losers_rise before)
 losers_rise (enters e ∷ before) = with_number-rise e.txn (losers_of before) (losers_rise before)
 losers_rise (commits f ∷ before) = without_number-rise f.txn (losers_of before) (losers_rise before)
 losers_rise (ends f ∷ before) = without_number-rise f.txn (losers_of before) (losers_rise before)
-losers_rise (lists l ∷ before) = losers_rise before
+losers_rise (marks m ∷ before) = losers_rise before
 
 -- a record of a transaction makes it a loser
 loser_more : (named txn : ℕ) (before : History) → (HasRecord before txn → IsFinished before txn ⊎ IsAmong (losers_of before) txn)
@@ -149,7 +140,7 @@ losers_are_all (undoes u ∷ before) txn = loser_more u.txn txn before (losers_a
 losers_are_all (enters e ∷ before) txn = loser_more e.txn txn before (losers_are_all before txn)
 losers_are_all (commits f ∷ before) txn = loser_less f.txn txn before (losers_are_all before txn)
 losers_are_all (ends f ∷ before) txn = loser_less f.txn txn before (losers_are_all before txn)
-losers_are_all (lists l ∷ before) txn = losers_are_all before txn
+losers_are_all (marks m ∷ before) txn = losers_are_all before txn
 
 -- a record is one of the transaction that it makes a loser
 record_more : (named txn : ℕ) (before : History) → (IsAmong (losers_of before) txn → HasRecord before txn)
@@ -164,7 +155,7 @@ losers_have_records (undoes u ∷ before) txn = record_more u.txn txn before (lo
 losers_have_records (enters e ∷ before) txn = record_more e.txn txn before (losers_have_records before txn)
 losers_have_records (commits f ∷ before) txn = λ loses. inr (losers_have_records before txn (without_number-only f.txn txn (losers_of before) loses))
 losers_have_records (ends f ∷ before) txn = λ loses. inr (losers_have_records before txn (without_number-only f.txn txn (losers_of before) loses))
-losers_have_records (lists l ∷ before) txn = losers_have_records before txn
+losers_have_records (marks m ∷ before) txn = losers_have_records before txn
 
 -- a record is of a transaction that is not finished
 unfinished_more : (named txn : ℕ) (before : History) → (IsFinished before named → ⊥) → (IsAmong (losers_of before) txn → IsFinished before txn → ⊥)
@@ -189,4 +180,14 @@ losers_are_unfinished (undoes u ∷ before) ordered txn = unfinished_more u.txn 
 losers_are_unfinished (enters e ∷ before) ordered txn = unfinished_more e.txn txn before ordered.1.may_come.unfinished (losers_are_unfinished before ordered.0 txn)
 losers_are_unfinished (commits f ∷ before) ordered txn = unfinished_less f.txn txn before (losers_are_unfinished before ordered.0 txn)
 losers_are_unfinished (ends f ∷ before) ordered txn = unfinished_less f.txn txn before (losers_are_unfinished before ordered.0 txn)
-losers_are_unfinished (lists l ∷ before) ordered txn = losers_are_unfinished before ordered.0 txn
+losers_are_unfinished (marks m ∷ before) ordered txn = losers_are_unfinished before ordered.0 txn
+
+-- so they are the unfinished transactions that have a record
+pub losers_are_exact : LosersAreUnfinished
+losers_are_exact = record {
+  rising = losers_rise;
+  exact = λ history ordered txn. (
+    λ loses. (losers_have_records history txn loses, losers_are_unfinished history ordered txn loses),
+    λ has. elim (losers_are_all history txn has.0) [ inl finished ↦ absurd (has.1 finished) | inr loses ↦ loses ],
+  );
+}

@@ -2,7 +2,7 @@
 use Rattle.std.proofs.Common.{◌≡◌, inl, inr, ℕ, eqb, List, [], ◌∷◌, refl, sym, ap, subst, ◌∙◌}
 use Rattle.std.proofs.lemmas.Bool.{eqb-true, cond_both}
 use Rattle.rm_types.specs.declared.formats.Format.{Format}
-use Rattle.rm_history.specs.Acts.{Change, History, changes, undoes, enters, commits, ends, lists}
+use Rattle.rm_history.specs.Acts.{Change, History, changes, undoes, enters, commits, ends, marks}
 use Rattle.rm_history.specs.Pending.{older, pending_of}
 use Rattle.rm_history.specs.Needs.{on_page, need_for, need_of}
 use Rattle.rm_history.specs.Rules.{MayChange, IsInOrder}
@@ -33,7 +33,7 @@ needs_are_logged (commits f ∷ before) ordered txn =
     cond_both (eqb f.txn txn) [] (pending_of before txn) NeedsAreLogged (λ is. tt) (λ is. needs_are_logged before ordered.0 txn)
 needs_are_logged (ends f ∷ before) ordered txn =
     cond_both (eqb f.txn txn) [] (pending_of before txn) NeedsAreLogged (λ is. tt) (λ is. needs_are_logged before ordered.0 txn)
-needs_are_logged (lists l ∷ before) ordered txn = needs_are_logged before ordered.0 txn
+needs_are_logged (marks m ∷ before) ordered txn = needs_are_logged before ordered.0 txn
 
 -- an entry leaves what is pending
 pending_settled : (format : Format) (before settled : History) (last : Change) (txn : ℕ) → Settles format before last settled → pending_of settled txn ≡ pending_of before txn

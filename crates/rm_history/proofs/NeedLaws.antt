@@ -76,7 +76,7 @@ need_is_the_most changed =
     let found = greatest changed in
     record {
       most = most_of_last changed;
-      front = reverse found.older;
+      earlier = reverse found.older;
       last = reverse found.newest;
       cut = cut_last changed found.newest found.older found.cut;
       is = omega (arith, found.is, lost-reverse found.newest, gained-reverse found.newest);

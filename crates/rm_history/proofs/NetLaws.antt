@@ -1,7 +1,7 @@
 -- What is pending is the net changes of a transaction that is not finished.
 use Rattle.std.proofs.Common.{◌≡◌, ◌⊎◌, inl, inr, ℕ, ◌<◌, Bool, true, ◌||◌, cond, eqb, List, [], ◌∷◌, refl, sym, ap, subst, ◌∙◌, arith}
 use Rattle.std.proofs.lemmas.Bool.{cases_eq, cases_Bool, eq-eqb, ne_eqb, cond-true, cond-false, or_left, or_right}
-use Rattle.rm_history.specs.Acts.{Act, Change, Undo, Finish, History, changes, undoes, enters, commits, ends, lists, newest_lsn}
+use Rattle.rm_history.specs.Acts.{Act, Change, Undo, Finish, History, changes, undoes, enters, commits, ends, marks, newest_lsn}
 use Rattle.rm_history.specs.Pending.{older, pending_of}
 use Rattle.rm_history.specs.Transactions.{IsFinished}
 use Rattle.rm_history.specs.Rules.{MayUndo, IsInOrder}
@@ -17,7 +17,7 @@ IsForeign (undoes u) txn = u.txn ≡ txn → ⊥
 IsForeign (enters e) txn = Unit {0}
 IsForeign (commits f) txn = Unit {0}
 IsForeign (ends f) txn = Unit {0}
-IsForeign (lists l) txn = Unit {0}
+IsForeign (marks m) txn = Unit {0}
 
 -- a compensation of another transaction names no change of this one
 undo_agrees : (before : History) (u : Undo) (txn lsn : ℕ) → IsInOrder before → MayUndo before u → (u.txn ≡ txn → ⊥) → HasLogged before lsn txn
@@ -132,7 +132,7 @@ pending_is_net (commits f ∷ before) in_order txn unfinished =
     net_stays (commits f) before txn in_order tt ∙ pending_is_net before in_order.0 txn (λ done. unfinished (inr done)) ∙ sym (pending_stays f before txn unfinished)
 pending_is_net (ends f ∷ before) in_order txn unfinished =
     net_stays (ends f) before txn in_order tt ∙ pending_is_net before in_order.0 txn (λ done. unfinished (inr done)) ∙ sym (pending_stays f before txn unfinished)
-pending_is_net (lists l ∷ before) in_order txn unfinished = net_stays (lists l) before txn in_order tt ∙ pending_is_net before in_order.0 txn unfinished
+pending_is_net (marks m ∷ before) in_order txn unfinished = net_stays (marks m) before txn in_order tt ∙ pending_is_net before in_order.0 txn unfinished
 
 -- the two ways of saying what is pending are one
 pub net_is_pending : NetIsPending

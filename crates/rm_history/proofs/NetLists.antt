@@ -3,7 +3,7 @@ use Rattle.std.proofs.Common.{◌≡◌, ◌⊎◌, inl, inr, ℕ, Bool, true, f
 use Rattle.std.specs.Prelude.{reverse}
 use Rattle.std.proofs.lemmas.Bool.{cond-true, cond-false, cases_eq, ne_eqb}
 use Rattle.std.proofs.lemmas.List.{reverse-append}
-use Rattle.rm_history.specs.Acts.{Act, Change, History, changes, undoes, enters, commits, ends, lists}
+use Rattle.rm_history.specs.Acts.{Act, Change, History, changes, undoes, enters, commits, ends, marks}
 use Rattle.rm_history.specs.Literal.{is_undone, net_among, net}
 
 -- the transaction has a change record with this LSN
@@ -14,7 +14,7 @@ HasLogged (undoes u ∷ before) lsn txn = HasLogged before lsn txn
 HasLogged (enters e ∷ before) lsn txn = HasLogged before lsn txn
 HasLogged (commits f ∷ before) lsn txn = HasLogged before lsn txn
 HasLogged (ends f ∷ before) lsn txn = HasLogged before lsn txn
-HasLogged (lists l ∷ before) lsn txn = HasLogged before lsn txn
+HasLogged (marks m ∷ before) lsn txn = HasLogged before lsn txn
 
 -- an act more is the last one of the log as it stands
 pub reverse-cons : (newest : Act) (before : History) → reverse (newest ∷ before) ≡ reverse before ++ (newest ∷ [])

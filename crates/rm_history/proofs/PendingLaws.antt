@@ -3,7 +3,7 @@ use Rattle.std.proofs.Common.{◌≡◌, ◌⊎◌, inl, inr, ℕ, ◌<◌, Bool
 use Rattle.std.specs.List.{AllByRecursion}
 use Rattle.std.proofs.lemmas.Bool.{cond_both, eqb-true, cases_eq}
 use Rattle.rm_types.specs.declared.numbers.Rid.{Rid}
-use Rattle.rm_history.specs.Acts.{Change, History, changes, undoes, enters, commits, ends, lists}
+use Rattle.rm_history.specs.Acts.{Change, History, changes, undoes, enters, commits, ends, marks}
 use Rattle.rm_history.specs.Contents.{page_of}
 use Rattle.rm_history.specs.Pending.{older, last_of, pending_of}
 use Rattle.rm_history.specs.Transactions.{IsFinished, HasChange}
@@ -60,7 +60,7 @@ finished_has_none (commits f ∷ before) ordered txn (inr earlier) =
 finished_has_none (ends f ∷ before) ordered txn (inl now) = if_equal f.txn txn [] (pending_of before txn) now
 finished_has_none (ends f ∷ before) ordered txn (inr earlier) =
     cond_both (eqb f.txn txn) [] (pending_of before txn) (λ l. l ≡ []) (λ is. refl) (λ is. finished_has_none before ordered.0 txn earlier)
-finished_has_none (lists l ∷ before) ordered txn finished = finished_has_none before ordered.0 txn finished
+finished_has_none (marks m ∷ before) ordered txn finished = finished_has_none before ordered.0 txn finished
 
 -- so a transaction with something pending is not finished
 pub changed_unfinished : (history : History) → IsInOrder history → (txn : ℕ) (rid : Rid) → IsChanged (pending_of history txn) rid → IsFinished history txn → ⊥
@@ -85,7 +85,7 @@ pending_are_of (undoes u ∷ before) txn =
 pending_are_of (enters e ∷ before) txn = pending_are_of before txn
 pending_are_of (commits f ∷ before) txn = cond_both (eqb f.txn txn) [] (pending_of before txn) (AreOf txn) (λ is. tt) (λ is. pending_are_of before txn)
 pending_are_of (ends f ∷ before) txn = cond_both (eqb f.txn txn) [] (pending_of before txn) (AreOf txn) (λ is. tt) (λ is. pending_are_of before txn)
-pending_are_of (lists l ∷ before) txn = pending_are_of before txn
+pending_are_of (marks m ∷ before) txn = pending_are_of before txn
 
 -- ---- on which row ids
 
@@ -100,7 +100,7 @@ changed_has_change (undoes u ∷ before) txn rid changed = changed_has_change be
 changed_has_change (enters e ∷ before) txn rid changed = changed_has_change before txn rid changed
 changed_has_change (commits f ∷ before) txn rid changed = changed_has_change before txn rid (changed_finish (eqb f.txn txn) (pending_of before txn) rid changed)
 changed_has_change (ends f ∷ before) txn rid changed = changed_has_change before txn rid (changed_finish (eqb f.txn txn) (pending_of before txn) rid changed)
-changed_has_change (lists l ∷ before) txn rid changed = changed_has_change before txn rid changed
+changed_has_change (marks m ∷ before) txn rid changed = changed_has_change before txn rid changed
 
 -- where a change may come, no other transaction has one pending on its row id
 pub nobody_else : (before : History) (c : Change) → IsInOrder before → MayChange before c → (other : ℕ) → IsChanged (pending_of before other) c.rid → c.txn ≡ other
@@ -137,7 +137,7 @@ pending_is_of_one (commits f ∷ before) ordered rid txn other changed other_cha
     pending_is_of_one before ordered.0 rid txn other (changed_finish (eqb f.txn txn) (pending_of before txn) rid changed) (changed_finish (eqb f.txn other) (pending_of before other) rid other_changed)
 pending_is_of_one (ends f ∷ before) ordered rid txn other changed other_changed =
     pending_is_of_one before ordered.0 rid txn other (changed_finish (eqb f.txn txn) (pending_of before txn) rid changed) (changed_finish (eqb f.txn other) (pending_of before other) rid other_changed)
-pending_is_of_one (lists l ∷ before) ordered rid txn other changed other_changed = pending_is_of_one before ordered.0 rid txn other changed other_changed
+pending_is_of_one (marks m ∷ before) ordered rid txn other changed other_changed = pending_is_of_one before ordered.0 rid txn other changed other_changed
 
 -- a row id that has a change record is inside of its page's directory
 pub changed_inside : (history : History) (txn : ℕ) (rid : Rid) → HasChange history txn rid → rid.slot < length (page_of history rid.page)
@@ -148,7 +148,7 @@ changed_inside (undoes u ∷ before) txn rid had = omega (arith, changed_inside 
 changed_inside (enters e ∷ before) txn rid had = changed_inside before txn rid had
 changed_inside (commits f ∷ before) txn rid had = changed_inside before txn rid had
 changed_inside (ends f ∷ before) txn rid had = changed_inside before txn rid had
-changed_inside (lists l ∷ before) txn rid had = changed_inside before txn rid had
+changed_inside (marks m ∷ before) txn rid had = changed_inside before txn rid had
 
 -- ---- in which order
 
@@ -172,4 +172,4 @@ pending_is_chained (commits f ∷ before) ordered txn =
     cond_both (eqb f.txn txn) [] (pending_of before txn) AreChained (λ is. tt) (λ is. pending_is_chained before ordered.0 txn)
 pending_is_chained (ends f ∷ before) ordered txn =
     cond_both (eqb f.txn txn) [] (pending_of before txn) AreChained (λ is. tt) (λ is. pending_is_chained before ordered.0 txn)
-pending_is_chained (lists l ∷ before) ordered txn = pending_is_chained before ordered.0 txn
+pending_is_chained (marks m ∷ before) ordered txn = pending_is_chained before ordered.0 txn

@@ -1,27 +1,32 @@
 -- Restart's undo can be made of any history, and leaves a legal one, in which nothing is pending and the inventory is right.
-use Rattle.std.proofs.Common.{◌≡◌, ◌⊎◌, inl, inr, ℕ, suc, ◌<◌, List, [], ◌∷◌, refl, sym, ap, subst, ◌∙◌, arith}
-use Rattle.std.proofs.lemmas.Bool.{cases_eq}
+use Rattle.std.proofs.Common.{◌≡◌, ◌⊎◌, inl, inr, ℕ, suc, ◌+◌, ◌<◌, List, [], ◌∷◌, length, map, refl, sym, ap, subst, ◌∙◌, arith}
+use Rattle.std.specs.List.{range_with_len}
+use Rattle.std.proofs.lemmas.Bool.{cases_eq, eq-eqb, ne_eqb}
 use Rattle.rm_types.specs.declared.formats.Format.{Format}
-use Rattle.rm_types.specs.declared.numbers.Rid.{Rid}
+use Rattle.rm_types.specs.declared.slots.Slot.{Slot}
 use Rattle.rm_model.specs.Object.{Rows}
-use Rattle.rm_history.specs.Acts.{Change, History, changes, undoes, enters, commits, ends, lists, newest_lsn}
-use Rattle.rm_history.specs.Contents.{page_of, entry_of, category_of}
-use Rattle.rm_history.specs.Pending.{pending_of, without_newest, all_pending}
-use Rattle.rm_history.specs.Transactions.{IsFinished, HasRecord, HasChange}
-use Rattle.rm_history.specs.Rows.{rows_of_log}
+use Rattle.rm_model.proofs.Slots.{length-set_slot}
+use Rattle.rm_history.specs.Acts.{Change, Undo, History, undoes, enters, ends, newest_lsn}
+use Rattle.rm_history.specs.Contents.{slot_at, slot_of, page_of, entry_of, category_of}
+use Rattle.rm_history.specs.Pending.{pending_of, of_txn, without_newest, all_pending}
+use Rattle.rm_history.specs.Transactions.{IsFinished, HasRecord}
+use Rattle.rm_history.specs.Rows.{rows_of_log, settled_of}
+use Rattle.rm_history.specs.Counts.{undo_count}
+use Rattle.rm_history.specs.Rules.{IsInOrder}
 use Rattle.rm_history.specs.Needs.{on_page}
 use Rattle.rm_history.specs.Legal.{IsLegal}
-use Rattle.rm_history.specs.Losers.{losers_of}
+use Rattle.rm_history.specs.Losers.{losers_of, IsAmong, AreRising}
 use Rattle.rm_history.specs.Undoing.{category_after, entry_for, undo_for, Settles, Undone, AllUndone, AllEnded}
-use Rattle.rm_history.specs.UndoLaws.{IsUndone, RestartsAreLegal, RestartsAreThere}
-use Rattle.rm_history.proofs.Fronts.{legal_is_in_order}
-use Rattle.rm_history.proofs.PendingLaws.{changed_none, changed_has_change}
-use Rattle.rm_history.proofs.Chains.{last_is_changed, last_is_unfinished}
-use Rattle.rm_history.proofs.Holding.{pages_hold_what_is_committed}
+use Rattle.rm_history.specs.UndoLaws.{IsUndone, RestartsAreLegal, RestartsCompensateAll, RestartsExist}
+use Rattle.rm_history.proofs.Prefixes.{legal_is_in_order}
+use Rattle.rm_history.proofs.PendingLaws.{changed_none}
+use Rattle.rm_history.proofs.Finished.{last_has_record}
+use Rattle.rm_history.proofs.Chains.{last_is_inside, last_is_unfinished}
+use Rattle.rm_history.proofs.Holding.{pages_hold_what_is_committed, settled_when_nothing_is_pending}
 use Rattle.rm_history.proofs.UndoTheorem.{entries_follow, no_undo_lacks_room}
 use Rattle.rm_history.proofs.Rollbacks.{HasEnded, has_ended}
-use Rattle.rm_history.proofs.AllPending.{of_txn, pending_of-newest, pending_of-none, without_newest-head}
-use Rattle.rm_history.proofs.Losers.{IsAmong, Rise, losers_rise, losers_are_all, losers_are_unfinished}
+use Rattle.rm_history.proofs.AllPending.{pending_of-newest, pending_of-none, without_newest-head}
+use Rattle.rm_history.proofs.Losers.{losers_rise, losers_are_all, losers_are_unfinished}
 
 -- ---- it can be made
 
@@ -59,8 +64,8 @@ all_ended_there before (txn ∷ rest) =
     (more.0, (mid, record { lsn = lsn; above = omega arith; new_is = refl }, more.1))
 
 -- so all that is pending is undone, and all losers end
-pub restarts_are_there : RestartsAreThere
-restarts_are_there format before =
+pub restarts_exist : RestartsExist
+restarts_exist format before =
     let undone = all_undone_there format before (all_pending before) in
     let ended = all_ended_there undone.0 (losers_of before) in
     (ended.0, record { undone = undone.0; undoes_all = undone.1; ends_all = ended.1 })
@@ -73,24 +78,44 @@ record Leaves (before : History) (txn : ℕ) (new : History) : Type 0 where
   kept : (any : ℕ) → IsFinished before any → IsFinished new any
   no_more : (any : ℕ) → IsFinished new any → IsFinished before any
   records : (any : ℕ) → HasRecord new any → (txn ≡ any) ⊎ HasRecord before any
+  sizes : (page : ℕ) → length (page_of new page) ≡ length (page_of before page)
+
+-- the page has as many slots after the undo as before it, where the slot is one of them
+size_stays : (before : History) (u : Undo) (page : ℕ) → u.rid.slot < length (page_of before u.rid.page) → length (page_of (undoes u ∷ before) page) ≡ length (page_of before page)
+size_stays before u page inside = elim (cases_eq u.rid.page page) [
+  | inl here ↦
+      let slots : u.rid.slot < length (page_of before page) = subst (λ (p : ℕ). u.rid.slot < length (page_of before p)) here inside in
+      rw (eq-eqb u.rid.page page here) (omega (arith, length-set_slot (page_of before page) u.rid.slot u.back, slots))
+  | inr other ↦ rw (ne_eqb u.rid.page page other) refl
+]
 
 -- with the entry before it or without
-undo_leaves : (format : Format) (before settled : History) (last : Change) (lsn : ℕ) → Settles format before last settled → Leaves before last.txn (undoes (undo_for lsn last) ∷ settled)
-undo_leaves format before settled last lsn (inl stays) =
+undo_leaves : (format : Format) (before settled : History) (last : Change) (lsn : ℕ) → last.rid.slot < length (page_of before last.rid.page)
+    → Settles format before last settled → Leaves before last.txn (undoes (undo_for lsn last) ∷ settled)
+undo_leaves format before settled last lsn inside (inl stays) =
     subst (λ (h : History). Leaves before last.txn (undoes (undo_for lsn last) ∷ h)) (sym stays.1)
-    (record { pending = refl; kept = λ any finished. finished; no_more = λ any finished. finished; records = λ any has. has })
-undo_leaves format before settled last lsn (inr differs) =
+    (record {
+      pending = refl;
+      kept = λ any finished. finished;
+      no_more = λ any finished. finished;
+      records = λ any has. has;
+      sizes = λ page. size_stays before (undo_for lsn last) page inside;
+    })
+undo_leaves format before settled last lsn inside (inr differs) =
     subst (λ (h : History). Leaves before last.txn (undoes (undo_for lsn last) ∷ h)) (sym differs.1.2)
     (record {
       pending = refl;
       kept = λ any finished. finished;
       no_more = λ any finished. finished;
       records = λ any has. elim has [ inl undone ↦ inl undone | inr earlier ↦ earlier ];
+      sizes = λ page. size_stays before (undo_for lsn last) page inside;
     })
 
 -- so each undo leaves that
-undone_leaves : (format : Format) (before new : History) (last : Change) → Undone format before last new → Leaves before last.txn new
-undone_leaves format before new last undone = subst (Leaves before last.txn) (sym undone.new_is) (undo_leaves format before undone.settled last undone.lsn undone.settles)
+undone_leaves : (format : Format) (before new : History) (last : Change) → last.rid.slot < length (page_of before last.rid.page)
+    → Undone format before last new → Leaves before last.txn new
+undone_leaves format before new last inside undone =
+    subst (Leaves before last.txn) (sym undone.new_is) (undo_leaves format before undone.settled last undone.lsn inside undone.settles)
 
 -- the history in which nothing is pending any more
 record AllAreUndone (format : Format) (before new : History) : Type 0 where
@@ -100,34 +125,23 @@ record AllAreUndone (format : Format) (before new : History) : Type 0 where
   no_more : (any : ℕ) → IsFinished new any → IsFinished before any
   records : (any : ℕ) → HasRecord new any → HasRecord before any
   rows : rows_of_log new ≡ rows_of_log before
-
--- a change is a record of its transaction
-change_is_record : (history : History) (txn : ℕ) (rid : Rid) → HasChange history txn rid → HasRecord history txn
-change_is_record [] txn rid = λ has. has
-change_is_record (changes c ∷ before) txn rid = elim [ inl now ↦ inl now.0 | inr earlier ↦ inr (change_is_record before txn rid earlier) ]
-change_is_record (undoes u ∷ before) txn rid = λ has. inr (change_is_record before txn rid has)
-change_is_record (enters e ∷ before) txn rid = λ has. inr (change_is_record before txn rid has)
-change_is_record (commits f ∷ before) txn rid = λ has. inr (change_is_record before txn rid has)
-change_is_record (ends f ∷ before) txn rid = λ has. inr (change_is_record before txn rid has)
-change_is_record (lists l ∷ before) txn rid = change_is_record before txn rid
+  sizes : (page : ℕ) → length (page_of new page) ≡ length (page_of before page)
 
 -- the transaction of the newest of all that is pending has a record
 pub newest_has_record : (history : History) (last : Change) (rest : List Change) → all_pending history ≡ last ∷ rest → HasRecord history last.txn
-newest_has_record history last rest is =
-    change_is_record history last.txn last.rid
-    (changed_has_change history last.txn last.rid (last_is_changed history last.txn last (of_txn last.txn rest) (pending_of-newest history last rest is)))
+newest_has_record history last rest is = last_has_record history last.txn last (of_txn last.txn rest) (pending_of-newest history last rest is)
 
 -- undoing these, which are all that is pending, gives that history
 all_are_undone : (format : Format) (before new : History) (all : List Change) → IsLegal format before → all_pending before ≡ all → AllUndone format before all new → AllAreUndone format before new
 all_are_undone format before new [] legal is undone =
     subst (AllAreUndone format before) (sym undone)
-    (record { legal = legal; none = is; kept = λ any finished. finished; no_more = λ any finished. finished; records = λ any has. has; rows = refl })
+    (record { legal = legal; none = is; kept = λ any finished. finished; no_more = λ any finished. finished; records = λ any has. has; rows = refl; sizes = λ page. refl })
 all_are_undone format before new (last ∷ rest) legal is undone =
     let mid : History = undone.0 in
     let mine : pending_of before last.txn ≡ last ∷ of_txn last.txn rest = pending_of-newest before last rest is in
     let unfinished : IsFinished before last.txn → ⊥ = last_is_unfinished before (legal_is_in_order format before legal) last.txn last (of_txn last.txn rest) mine in
     let one : IsUndone format before last.txn (of_txn last.txn rest) mid = no_undo_lacks_room format before mid last.txn last (of_txn last.txn rest) legal unfinished mine undone.1 in
-    let left : Leaves before last.txn mid = undone_leaves format before mid last undone.1 in
+    let left : Leaves before last.txn mid = undone_leaves format before mid last (last_is_inside before last.txn last (of_txn last.txn rest) mine) undone.1 in
     let is_mid : all_pending mid ≡ rest = left.pending ∙ ap (λ (l : List Change). without_newest l last.txn) is ∙ without_newest-head last rest in
     let more : AllAreUndone format mid new = all_are_undone format mid new rest one.legal is_mid undone.2 in
     record {
@@ -140,6 +154,7 @@ all_are_undone format before new (last ∷ rest) legal is undone =
         | inr earlier ↦ earlier
       ];
       rows = more.rows ∙ one.rows;
+      sizes = λ page. more.sizes page ∙ left.sizes page;
     }
 
 -- ---- and all losers end
@@ -152,13 +167,14 @@ record AllHaveEnded (format : Format) (before : History) (txns : List ℕ) (new 
   kept : (any : ℕ) → IsFinished before any → IsFinished new any
   records : (any : ℕ) → HasRecord new any → IsAmong txns any ⊎ HasRecord before any
   rows : rows_of_log new ≡ rows_of_log before
+  sizes : (page : ℕ) → length (page_of new page) ≡ length (page_of before page)
 
 -- the end of these, none of which is finished or has a change pending, gives that history
-all_have_ended : (format : Format) (before new : History) (txns : List ℕ) → IsLegal format before → Rise txns → ((txn : ℕ) → IsAmong txns txn → IsFinished before txn → ⊥)
+all_have_ended : (format : Format) (before new : History) (txns : List ℕ) → IsLegal format before → AreRising txns → ((txn : ℕ) → IsAmong txns txn → IsFinished before txn → ⊥)
     → ((txn : ℕ) → pending_of before txn ≡ []) → AllEnded before txns new → AllHaveEnded format before txns new
 all_have_ended format before new [] legal rise unfinished none ended =
     subst (AllHaveEnded format before []) (sym ended)
-    (record { legal = legal; pending = λ any. refl; finished = λ any among. absurd among; kept = λ any finished. finished; records = λ any has. inr has; rows = refl })
+    (record { legal = legal; pending = λ any. refl; finished = λ any among. absurd among; kept = λ any finished. finished; records = λ any has. inr has; rows = refl; sizes = λ page. refl })
 all_have_ended format before new (txn ∷ rest) legal rise unfinished none ended =
     let mid : History = ended.0 in
     let one : HasEnded format before txn mid = has_ended format before mid txn legal (unfinished txn (inl refl)) (none txn) ended.1 in
@@ -180,7 +196,51 @@ all_have_ended format before new (txn ∷ rest) legal rise unfinished none ended
         | inr earlier ↦ elim (one.records any earlier) [ inl first ↦ inl (inl first) | inr had ↦ inr had ]
       ];
       rows = more.rows ∙ one.rows;
+      sizes = λ page. more.sizes page ∙ ap (λ (slots : List Slot). length slots) (one.pages page);
     }
+
+-- ---- the pages then
+
+-- a list of slots is what it holds at each number
+slots_by_number : (f : ℕ → Slot) (slots : List Slot) (from : ℕ) → ((number : ℕ) → slot_at slots number ≡ f (number + from)) → slots ≡ map f (range_with_len from (length slots))
+slots_by_number f [] from holds = refl
+slots_by_number f (slot ∷ slots) from holds =
+    let rest : slots ≡ map f (range_with_len (from + 1) (length slots)) =
+    slots_by_number f slots (from + 1) (λ number. holds (suc number) ∙ ap f (omega arith)) in
+    let first : slot ≡ f from = holds 0 ∙ ap f (omega arith) in
+    λ i. first i ∷ rest i
+
+-- where nothing is pending each page is as it is with its committed rows alone
+pub page_is_settled : (history : History) → IsInOrder history → ((txn : ℕ) → pending_of history txn ≡ []) → (page : ℕ) → page_of history page ≡ settled_of history page
+page_is_settled history ordered none page =
+    let held : ℕ → Slot = λ number. slot_of (rows_of_log history (record { page = page; slot = number })) in
+    slots_by_number held (page_of history page) 0 (λ number. settled_when_nothing_is_pending history ordered none page number ∙ ap held (omega arith))
+
+-- two histories with the same rows and as many slots on a page have one such page
+settled_alike : (history other : History) (page : ℕ) → rows_of_log history ≡ rows_of_log other → length (page_of history page) ≡ length (page_of other page)
+    → settled_of history page ≡ settled_of other page
+settled_alike history other page rows sizes =
+    λ i. map (λ number. slot_of (rows i (record { page = page; slot = number }))) (range_with_len 0 (sizes i))
+
+-- ---- a compensation for each pending change
+
+count_settled : (start : Format) (before settled : History) (last : Change) → Settles start before last settled → undo_count settled ≡ undo_count before
+count_settled start before settled last (inl stays) = ap undo_count stays.1
+count_settled start before settled last (inr differs) = ap undo_count differs.1.2
+
+count_undone : (start : Format) (before new : History) (all : List Change) → AllUndone start before all new → undo_count new ≡ undo_count before + length all
+count_undone start before new [] undone = omega (arith, ap undo_count undone)
+count_undone start before new (last ∷ rest) undone =
+    let one : Undone start before last undone.0 = undone.1 in
+    omega (arith, ap undo_count one.new_is, count_settled start before one.settled last one.settles, count_undone start undone.0 new rest undone.2)
+
+count_ended : (before new : History) (txns : List ℕ) → AllEnded before txns new → undo_count new ≡ undo_count before
+count_ended before new [] ended = ap undo_count ended
+count_ended before new (txn ∷ rest) ended = count_ended ended.0 new rest ended.2 ∙ ap undo_count ended.1.new_is
+
+pub restarts_compensate_all : RestartsCompensateAll
+restarts_compensate_all start before new restarted =
+    count_ended restarted.undone new (losers_of before) restarted.ends_all ∙ count_undone start before restarted.undone (all_pending before) restarted.undoes_all
 
 -- ---- the theorem
 
@@ -206,11 +266,16 @@ restarts_are_legal format before new legal restarted =
       | inl finished ↦ over.kept txn (undone.kept txn finished)
       | inr loses ↦ over.finished txn loses
     ] in
+    let ordered : IsInOrder new = legal_is_in_order format new over.legal in
+    let pages : (page : ℕ) → page_of new page ≡ settled_of before page = λ page.
+    page_is_settled new ordered none page ∙ settled_alike new before page rows (over.sizes page ∙ undone.sizes page) in
     record {
       legal = over.legal;
       none = none;
       finished = λ txn has. elim (over.records txn has) [ inl loses ↦ over.finished txn loses | inr earlier ↦ had txn (undone.records txn earlier) ];
       rows = rows;
-      settled = λ rid. pages_hold_what_is_committed new (legal_is_in_order format new over.legal) rid (λ txn changed. changed_none (pending_of new txn) rid (none txn) changed) ∙ ap (λ (r : Rows). r rid) rows;
-      entered = all_entered format new over.legal none;
+      settled = λ rid.
+          pages_hold_what_is_committed new ordered rid (λ txn changed. changed_none (pending_of new txn) rid (none txn) changed) ∙ ap (λ (r : Rows). r rid) rows;
+      pages = pages;
+      entered = λ page. all_entered format new over.legal none page ∙ ap (category_of format) (pages page);
     }

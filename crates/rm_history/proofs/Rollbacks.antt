@@ -1,65 +1,47 @@
--- A rollback of an unfinished transaction is legal, and leaves the committed rows as they are.
-use Rattle.std.proofs.Common.{◌≡◌, ◌⊎◌, inl, inr, ℕ, List, [], ◌∷◌, refl, sym, ap, subst, ◌∙◌, arith}
+-- A rollback of an unfinished transaction, partial or whole, is legal, and leaves the committed rows as they are.
+use Rattle.std.proofs.Common.{◌≡◌, ◌⊎◌, inl, inr, ℕ, List, [], ◌∷◌, ◌++◌, refl, sym, subst, ◌∙◌}
+use Rattle.std.proofs.lemmas.List.{append-nil}
 use Rattle.rm_types.specs.declared.formats.Format.{Format}
-use Rattle.rm_history.specs.Acts.{Change, Finish, History, ends}
+use Rattle.rm_history.specs.Acts.{Change, Finish, History}
+use Rattle.rm_history.specs.Contents.{page_of}
 use Rattle.rm_history.specs.Pending.{pending_of}
 use Rattle.rm_history.specs.Transactions.{IsFinished, HasRecord}
 use Rattle.rm_history.specs.Rows.{rows_of_log}
-use Rattle.rm_history.specs.Needs.{on_page, need_for, need_of, Fits}
 use Rattle.rm_history.specs.Rules.{MayEnd}
-use Rattle.rm_history.specs.Legal.{EntriesFollow, IsLegal}
+use Rattle.rm_history.specs.Legal.{IsLegal}
 use Rattle.rm_history.specs.Undoing.{AllUndone, Ended}
-use Rattle.rm_history.specs.UndoLaws.{RollbacksAreLegal}
-use Rattle.rm_history.proofs.Fronts.{legal_is_in_order}
+use Rattle.rm_history.specs.UndoLaws.{IsUndone, RollbacksAreLegal, PartialRollbacksAreLegal}
+use Rattle.rm_history.proofs.Prefixes.{legal_is_in_order}
 use Rattle.rm_history.proofs.ChainSteps.{pending-ended}
-use Rattle.rm_history.proofs.NeedSums.{sum_below-same}
+use Rattle.rm_history.proofs.NeedSums.{finish_fits}
+use Rattle.rm_history.proofs.Following.{entries_follow_end}
 use Rattle.rm_history.proofs.UndoTheorem.{fits_in_order, entries_follow, no_undo_lacks_room}
 
--- ---- all of a transaction's changes are undone
+-- ---- a transaction's newest changes are undone
 
--- the history in which a transaction has nothing pending any more
-pub record AreUndone (format : Format) (before : History) (txn : ℕ) (new : History) : Type 0 where
-  pub legal : IsLegal format new
-  pub none : pending_of new txn ≡ []
-  pub others : (other : ℕ) → (other ≡ txn → ⊥) → pending_of new other ≡ pending_of before other
-  pub unfinished : IsFinished new txn → ⊥
-  pub rows : rows_of_log new ≡ rows_of_log before
-
--- its pending changes are undone, one after the other
-all_undone : (format : Format) (before new : History) (txn : ℕ) (all : List Change) → IsLegal format before → (IsFinished before txn → ⊥) → pending_of before txn ≡ all
-    → AllUndone format before all new → AreUndone format before txn new
-all_undone format before new txn [] legal unfinished is undone =
-    subst (λ (h : History). AreUndone format before txn h) (sym undone)
-    (record { legal = legal; none = is; others = λ other differs. refl; unfinished = unfinished; rows = refl })
-all_undone format before new txn (last ∷ rest) legal unfinished is undone =
-    let one = no_undo_lacks_room format before undone.0 txn last rest legal unfinished is undone.1 in
-    let more = all_undone format undone.0 new txn rest one.legal one.unfinished one.pending undone.2 in
+-- one after the other
+newest_undone : (start : Format) (before new : History) (txn : ℕ) (newest rest : List Change) → IsLegal start before → (IsFinished before txn → ⊥)
+    → pending_of before txn ≡ newest ++ rest → AllUndone start before newest new → IsUndone start before txn rest new
+newest_undone start before new txn [] rest legal unfinished is undone =
+    subst (IsUndone start before txn rest) (sym undone)
+    (record { legal = legal; pending = is; others = λ other differs. refl; unfinished = unfinished; rows = refl })
+newest_undone start before new txn (last ∷ newest) rest legal unfinished is undone =
+    let one = no_undo_lacks_room start before undone.0 txn last (newest ++ rest) legal unfinished is undone.1 in
+    let more = newest_undone start undone.0 new txn newest rest one.legal one.unfinished one.pending undone.2 in
     record {
       legal = more.legal;
-      none = more.none;
+      pending = more.pending;
       others = λ other differs. more.others other differs ∙ one.others other differs;
       unfinished = more.unfinished;
       rows = more.rows ∙ one.rows;
     }
 
+-- a partial rollback
+pub partial_rollbacks_are_legal : PartialRollbacksAreLegal
+partial_rollbacks_are_legal start before new txn rest legal unfinished back =
+    newest_undone start before new txn back.newest rest legal unfinished back.cut back.undoes_newest
+
 -- ---- a transaction ends that has nothing pending
-
--- each page still fits: no transaction has less pending
-end_fits : (before : History) (f : Finish) → MayEnd before f → Fits before → Fits (ends f ∷ before)
-end_fits before f may fits page n =
-    omega (
-      arith,
-      fits page n,
-      sum_below-same (λ txn. need_of before txn page) (λ txn. need_of (ends f ∷ before) txn page) n
-          (λ txn below. ap (λ (all : List Change). need_for (on_page page all)) (pending-ended f before txn may)),
-    )
-
--- and the inventory follows
-entries_follow_end : (format : Format) (before : History) (f : Finish) → MayEnd before f → EntriesFollow format before → EntriesFollow format (ends f ∷ before)
-entries_follow_end format before f may follow page = elim (follow page) [
-  | inl right ↦ inl right
-  | inr pending ↦ inr (pending.0, λ empty. pending.1 (ap (on_page page) (sym (pending-ended f before pending.0 may)) ∙ empty))
-]
 
 -- the history in which a transaction has ended
 pub record HasEnded (format : Format) (before : History) (txn : ℕ) (new : History) : Type 0 where
@@ -70,6 +52,7 @@ pub record HasEnded (format : Format) (before : History) (txn : ℕ) (new : Hist
   pub no_more : (any : ℕ) → IsFinished new any → (txn ≡ any) ⊎ IsFinished before any
   pub records : (any : ℕ) → HasRecord new any → (txn ≡ any) ⊎ HasRecord before any
   pub rows : rows_of_log new ≡ rows_of_log before
+  pub pages : (page : ℕ) → page_of new page ≡ page_of before page
 
 -- the end of a transaction that has nothing pending gives that history
 pub has_ended : (format : Format) (before new : History) (txn : ℕ) → IsLegal format before → (IsFinished before txn → ⊥) → pending_of before txn ≡ [] → Ended before txn new → HasEnded format before txn new
@@ -80,7 +63,7 @@ has_ended format before new txn legal unfinished none ended =
     (record {
       legal = (
         legal,
-        record { above = ended.above; may_come = may; fits = end_fits before f may (fits_in_order before (legal_is_in_order format before legal)) },
+        record { above = ended.above; may_come = may; fits = finish_fits before f (fits_in_order before (legal_is_in_order format before legal)) },
         record { entered = tt; follow = entries_follow_end format before f may (entries_follow format before legal) },
       );
       pending = λ any. pending-ended f before any may;
@@ -89,6 +72,7 @@ has_ended format before new txn legal unfinished none ended =
       no_more = λ any finished. finished;
       records = λ any has. has;
       rows = refl;
+      pages = λ page. refl;
     })
 
 -- ---- the theorem
@@ -96,6 +80,7 @@ has_ended format before new txn legal unfinished none ended =
 -- all of a transaction's changes are undone, and then it ends
 pub rollbacks_are_legal : RollbacksAreLegal
 rollbacks_are_legal format before new txn legal unfinished back =
-    let undone : AreUndone format before txn back.undone = all_undone format before back.undone txn (pending_of before txn) legal unfinished refl back.undoes_all in
-    let over : HasEnded format back.undone txn new = has_ended format back.undone new txn undone.legal undone.unfinished undone.none back.ends_it in
+    let undone : IsUndone format before txn [] back.undone =
+    newest_undone format before back.undone txn (pending_of before txn) [] legal unfinished (sym (append-nil (pending_of before txn))) back.undoes_all in
+    let over : HasEnded format back.undone txn new = has_ended format back.undone new txn undone.legal undone.unfinished undone.pending back.ends_it in
     (over.legal, over.finished, over.rows ∙ undone.rows)

@@ -6,15 +6,15 @@ use Rattle.rm_types.specs.declared.slots.Slot.{Slot}
 use Rattle.rm_model.specs.Pages.{set_slot}
 use Rattle.rm_history.specs.Acts.{Change, History, undoes, enters, ends, newest_lsn}
 use Rattle.rm_history.specs.Contents.{page_of, category_of, entry_of}
-use Rattle.rm_history.specs.Pending.{without_newest, without, all_pending}
+use Rattle.rm_history.specs.Pending.{of_txn, without_newest, without, all_pending}
 use Rattle.rm_history.specs.Rules.{IsInOrder}
-use Rattle.rm_history.specs.Losers.{with_number, without_number, losers_of}
+use Rattle.rm_history.specs.Losers.{with_number, without_number, losers_of, IsAmong}
 use Rattle.rm_history.specs.Undoing.{category_after, entry_for, undo_for, Settles, Undone, Ended}
 use Rattle.rm_history.specs.UndoBytes.{inventory_record, compensate_record, end_record, bytes_of, entry_bytes, some_lsn, with_entry, with_undo, undoing_bytes, ending_bytes, undo_bytes}
 use Rattle.rm_history.specs.UndoLaws.{UndoBytesGoDown}
 use Rattle.rm_history.proofs.Chains.{last_is_unfinished}
-use Rattle.rm_history.proofs.AllPending.{of_txn, pending_of-newest, without_newest-head}
-use Rattle.rm_history.proofs.Losers.{IsAmong, losers_rise, losers_are_all, with_number-there, with_number-kept}
+use Rattle.rm_history.proofs.AllPending.{pending_of-newest, without_newest-head}
+use Rattle.rm_history.proofs.Losers.{losers_rise, losers_are_all, with_number-there, with_number-kept}
 use Rattle.rm_history.proofs.Restarts.{newest_has_record}
 
 -- ---- what an undo leaves in pages and in the inventory

@@ -1,6 +1,8 @@
 -- What each record of a log does, and a history: what the records of a log do, the newest first.
 use Rattle.std.specs.Prelude.{ℕ, List, [], ◌∷◌}
+use Rattle.rm_types.specs.declared.numbers.Lsn.{Lsn}
 use Rattle.rm_types.specs.declared.numbers.Rid.{Rid}
+use Rattle.rm_types.specs.declared.numbers.TxnId.{TxnId}
 use Rattle.rm_types.specs.declared.places.Place.{Place}
 use Rattle.rm_types.specs.declared.slots.Slot.{Slot}
 use Rattle.rm_types.specs.declared.slots.Slot.TheVariants.{Vacant, Row}
@@ -47,28 +49,36 @@ pub record Finish : Type 0 where
   pub lsn : ℕ
   pub txn : ℕ
 
+-- what a record of no transaction does
+pub data Mark : Type 0 where
+  lists : Listing → Mark
+
 pub data Act : Type 0 where
   changes : Change → Act
   undoes : Undo → Act
   enters : Entry → Act
   commits : Finish → Act
   ends : Finish → Act
-  lists : Listing → Act
+  marks : Mark → Act
 
 -- what the records of a log do, the newest first
 abbrev pub History : Type 0
 History = List Act
 
 -- what a record with this LSN does
+abbrev pub change_at : ℕ → TxnId → Lsn → Rid → ℕ → (before after : Slot) → Act
+change_at lsn txn under rid need before after =
+    changes (record { lsn = lsn; txn = txn.0; under = under.0; rid = rid; need = need; before = before; after = after })
+
 abbrev pub act_at : ℕ → LogRecord → Act
-act_at lsn (Insert txn under rid need row) = changes (record { lsn = lsn; txn = txn.0; under = under.0; rid = rid; need = need; before = Vacant; after = Row row })
-act_at lsn (Delete txn under rid need old) = changes (record { lsn = lsn; txn = txn.0; under = under.0; rid = rid; need = need; before = Row old; after = Vacant })
-act_at lsn (Update txn under rid need old new) = changes (record { lsn = lsn; txn = txn.0; under = under.0; rid = rid; need = need; before = Row old; after = Row new })
+act_at lsn (Insert txn under rid need row) = change_at lsn txn under rid need Vacant (Row row)
+act_at lsn (Delete txn under rid need old) = change_at lsn txn under rid need (Row old) Vacant
+act_at lsn (Update txn under rid need old new) = change_at lsn txn under rid need (Row old) (Row new)
 act_at lsn (Compensate txn undone next rid back) = undoes (record { lsn = lsn; txn = txn.0; undone = undone.0; next = next.0; rid = rid; back = back })
 act_at lsn (Inventory txn page category) = enters (record { lsn = lsn; txn = txn.0; page = page; category = category })
 act_at lsn (Commit txn) = commits (record { lsn = lsn; txn = txn.0 })
 act_at lsn (End txn) = ends (record { lsn = lsn; txn = txn.0 })
-act_at lsn (Checkpoint next losers pages blocks) = lists (record { lsn = lsn; next = next; losers = losers; pages = pages; blocks = blocks })
+act_at lsn (Checkpoint next losers pages blocks) = marks (lists (record { lsn = lsn; next = next; losers = losers; pages = pages; blocks = blocks }))
 
 abbrev pub act_of : Logged → Act
 act_of logged = act_at logged.lsn.0 logged.what
@@ -81,14 +91,17 @@ acts_onto history (oldest ∷ log) = acts_onto (act_of oldest ∷ history) log
 abbrev pub acts_of : List Logged → History
 acts_of log = acts_onto [] log
 
--- the offset of its record
+-- the offset of a record
+abbrev pub mark_lsn : Mark → ℕ
+mark_lsn (lists l) = l.lsn
+
 abbrev pub lsn_of : Act → ℕ
 lsn_of (changes c) = c.lsn
 lsn_of (undoes u) = u.lsn
 lsn_of (enters e) = e.lsn
 lsn_of (commits f) = f.lsn
 lsn_of (ends f) = f.lsn
-lsn_of (lists l) = l.lsn
+lsn_of (marks m) = mark_lsn m
 
 -- the offset of the newest record, 0 for none
 abbrev pub newest_lsn : History → ℕ

@@ -6,7 +6,7 @@ use Rattle.rm_types.specs.declared.formats.Format.{Format}
 use Rattle.rm_types.specs.declared.numbers.TheConstants.{BLOCK_PAGES}
 use Rattle.rm_types.specs.Formats.{category_bytes, greatest_category}
 use Rattle.rm_model.specs.Pages.{used, set_slot}
-use Rattle.rm_history.specs.Acts.{History, changes, undoes, enters, commits, ends, lists}
+use Rattle.rm_history.specs.Acts.{History, changes, undoes, enters, commits, ends, marks}
 
 -- what a slot holds: nothing past the directory
 abbrev pub slot_at : List Slot → ℕ → Slot
@@ -25,7 +25,11 @@ page_of (undoes u ∷ before) page = if u.rid.page == page then set_slot (page_o
 page_of (enters e ∷ before) page = page_of before page
 page_of (commits f ∷ before) page = page_of before page
 page_of (ends f ∷ before) page = page_of before page
-page_of (lists l ∷ before) page = page_of before page
+page_of (marks m ∷ before) page = page_of before page
+
+-- The format in force after these records, of a log that begins in this one. No record changes it.
+abbrev pub format_after : Format → History → Format
+format_after start history = start
 
 -- the LSN of the last record that set a slot of the page, 0 for none
 abbrev pub version_of : History → ℕ → ℕ
@@ -35,9 +39,9 @@ version_of (undoes u ∷ before) page = if u.rid.page == page then u.lsn else ve
 version_of (enters e ∷ before) page = version_of before page
 version_of (commits f ∷ before) page = version_of before page
 version_of (ends f ∷ before) page = version_of before page
-version_of (lists l ∷ before) page = version_of before page
+version_of (marks m ∷ before) page = version_of before page
 
--- how full a page with these slots is, in the steps of the volume's format
+-- how full a page with these slots is, in a format's steps
 abbrev pub category_of : Format → List Slot → ℕ
 category_of format slots = min (greatest_category format) (used slots / category_bytes format)
 
@@ -49,7 +53,7 @@ entry_of (undoes u ∷ before) page = entry_of before page
 entry_of (enters e ∷ before) page = if e.page == page then e.category else entry_of before page
 entry_of (commits f ∷ before) page = entry_of before page
 entry_of (ends f ∷ before) page = entry_of before page
-entry_of (lists l ∷ before) page = entry_of before page
+entry_of (marks m ∷ before) page = entry_of before page
 
 -- the LSN of the last record that entered a category in this block of the inventory, 0 for none
 abbrev pub block_version_of : History → ℕ → ℕ
@@ -59,4 +63,4 @@ block_version_of (undoes u ∷ before) block = block_version_of before block
 block_version_of (enters e ∷ before) block = if (e.page / BLOCK_PAGES) == block then e.lsn else block_version_of before block
 block_version_of (commits f ∷ before) block = block_version_of before block
 block_version_of (ends f ∷ before) block = block_version_of before block
-block_version_of (lists l ∷ before) block = block_version_of before block
+block_version_of (marks m ∷ before) block = block_version_of before block

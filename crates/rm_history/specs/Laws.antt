@@ -1,5 +1,5 @@
 -- What holds of all logs, of all histories that are in order, and of all that are legal.
-use Rattle.std.specs.Prelude.{◌≡◌, ℕ, List, [], ◌∷◌, ◌++◌, ◌⊎◌}
+use Rattle.std.specs.Prelude.{◌≡◌, ℕ, List, [], ◌∷◌, ◌++◌, ◌⊎◌, ◌↔◌}
 use Rattle.rm_types.specs.declared.formats.Format.{Format}
 use Rattle.rm_types.specs.declared.numbers.Rid.{Rid}
 use Rattle.rm_outside.specs.Images.{Bytes}
@@ -8,7 +8,9 @@ use Rattle.rm_history.specs.Logs.{Batch, HasLog}
 use Rattle.rm_model.specs.Pages.{row_at}
 use Rattle.rm_history.specs.Acts.{Change, History, act_of}
 use Rattle.rm_history.specs.Contents.{slot_at, slot_of, page_of}
-use Rattle.rm_history.specs.Pending.{pending_of, last_of}
+use Rattle.rm_history.specs.Pending.{pending_of, of_txn, all_pending, last_of, AreFalling}
+use Rattle.rm_history.specs.Transactions.{IsFinished, HasRecord}
+use Rattle.rm_history.specs.Losers.{losers_of, IsAmong, AreRising}
 use Rattle.rm_history.specs.Rows.{applied, rows_of_log}
 use Rattle.rm_history.specs.Rules.{IsInOrder}
 use Rattle.rm_history.specs.Legal.{IsLegal}
@@ -17,9 +19,9 @@ use Rattle.rm_history.specs.Legal.{IsLegal}
 abbrev pub LogsAreOne : Type 0
 LogsAreOne = (area : Bytes) (batches others : List Batch) → HasLog area batches → HasLog area others → batches ≡ others
 
--- what a record does, with its LSN, tells the record
-abbrev pub ActsTellRecords : Type 0
-ActsTellRecords = (one other : Logged) → act_of one ≡ act_of other → one ≡ other
+-- no two records do the same with the same LSN
+abbrev pub ActsDetermineRecords : Type 0
+ActsDetermineRecords = (one other : Logged) → act_of one ≡ act_of other → one ≡ other
 
 -- each change names the next one as the pending record below it, and the oldest names none
 abbrev pub AreChained : List Change → Type 0
@@ -33,17 +35,17 @@ IsChanged (newest ∷ before) rid = (newest.rid ≡ rid) ⊎ IsChanged before ri
 
 -- a log without records is legal
 abbrev pub EmptyIsLegal : Type 0
-EmptyIsLegal = (format : Format) → IsLegal format []
+EmptyIsLegal = (start : Format) → IsLegal start []
 
 -- what stands before the newest records is in order, and legal where they are
-abbrev pub FrontsAreInOrder : Type 0
-FrontsAreInOrder = (newest before : History) → IsInOrder (newest ++ before) → IsInOrder before
+abbrev pub PrefixesAreInOrder : Type 0
+PrefixesAreInOrder = (newest before : History) → IsInOrder (newest ++ before) → IsInOrder before
 
-abbrev pub LegalFronts : Type 0
-LegalFronts = (format : Format) (newest before : History) → IsLegal format (newest ++ before) → IsLegal format before
+abbrev pub LegalPrefixes : Type 0
+LegalPrefixes = (start : Format) (newest before : History) → IsLegal start (newest ++ before) → IsLegal start before
 
 abbrev pub LegalIsInOrder : Type 0
-LegalIsInOrder = (format : Format) (history : History) → IsLegal format history → IsInOrder history
+LegalIsInOrder = (start : Format) (history : History) → IsLegal start history → IsInOrder history
 
 -- The pending changes of a transaction are a chain, and those on one row id are of one transaction.
 abbrev pub PendingIsChained : Type 0
@@ -52,6 +54,20 @@ PendingIsChained = (history : History) → IsInOrder history → (txn : ℕ) →
 abbrev pub PendingIsOfOne : Type 0
 PendingIsOfOne = (history : History) → IsInOrder history → (rid : Rid) (txn other : ℕ)
     → IsChanged (pending_of history txn) rid → IsChanged (pending_of history other) rid → txn ≡ other
+
+-- All that is pending is what is pending of each transaction, with LSNs that fall.
+pub record AllPendingIsOfEach : Type 0 where
+  pub each : (history : History) (txn : ℕ) → of_txn txn (all_pending history) ≡ pending_of history txn
+  pub falling : (history : History) → IsInOrder history → AreFalling (all_pending history)
+
+-- a finished transaction has nothing pending
+abbrev pub NoneOfFinished : Type 0
+NoneOfFinished = (history : History) → IsInOrder history → (txn : ℕ) → IsFinished history txn → pending_of history txn ≡ []
+
+-- The losers are the unfinished transactions with a record, with ids that rise.
+pub record LosersAreUnfinished : Type 0 where
+  pub rising : (history : History) → AreRising (losers_of history)
+  pub exact : (history : History) → IsInOrder history → (txn : ℕ) → IsAmong (losers_of history) txn ↔ (HasRecord history txn × (IsFinished history txn → ⊥))
 
 -- what a page holds at a row id is what its pending changes left on the committed row, or that row
 abbrev pub PagesHoldWhatIsPending : Type 0

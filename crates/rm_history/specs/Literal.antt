@@ -2,7 +2,7 @@
 use Rattle.std.specs.Prelude.{◌≡◌, ℕ, ◌+◌, ◌≤◌, ◌==◌, if◌then◌else◌, List, [], ◌∷◌, ◌++◌, Bool, false, ◌||◌, sum_by, None}
 use Rattle.rm_model.specs.Pages.{row_length}
 use Rattle.rm_model.specs.Object.{Rows}
-use Rattle.rm_history.specs.Acts.{Act, Change, changes, undoes, enters, commits, ends, lists}
+use Rattle.rm_history.specs.Acts.{Act, Change, changes, undoes, enters, commits, ends, marks}
 use Rattle.rm_history.specs.Rows.{with_slot}
 
 -- what the records of a log do, the oldest first
@@ -17,17 +17,18 @@ is_undone lsn (changes c ∷ later) = is_undone lsn later
 is_undone lsn (enters e ∷ later) = is_undone lsn later
 is_undone lsn (commits f ∷ later) = is_undone lsn later
 is_undone lsn (ends f ∷ later) = is_undone lsn later
-is_undone lsn (lists l ∷ later) = is_undone lsn later
+is_undone lsn (marks m ∷ later) = is_undone lsn later
 
 -- the transaction's changes among these records that none of the log names as undone, in order
 abbrev pub net_among : Acts → ℕ → Acts → List Change
 net_among log txn [] = []
-net_among log txn (changes c ∷ later) = if c.txn == txn then (if is_undone c.lsn log then net_among log txn later else c ∷ net_among log txn later) else net_among log txn later
+net_among log txn (changes c ∷ later) =
+    if c.txn == txn then (if is_undone c.lsn log then net_among log txn later else c ∷ net_among log txn later) else net_among log txn later
 net_among log txn (undoes u ∷ later) = net_among log txn later
 net_among log txn (enters e ∷ later) = net_among log txn later
 net_among log txn (commits f ∷ later) = net_among log txn later
 net_among log txn (ends f ∷ later) = net_among log txn later
-net_among log txn (lists l ∷ later) = net_among log txn later
+net_among log txn (marks m ∷ later) = net_among log txn later
 
 -- the net changes of a transaction
 abbrev pub net : Acts → ℕ → List Change
@@ -41,7 +42,7 @@ winners (changes c ∷ later) = winners later
 winners (undoes u ∷ later) = winners later
 winners (enters e ∷ later) = winners later
 winners (ends f ∷ later) = winners later
-winners (lists l ∷ later) = winners later
+winners (marks m ∷ later) = winners later
 
 -- the rows with these changes, the first of them first
 abbrev pub made : Rows → List Change → Rows
@@ -66,8 +67,8 @@ gained changed = sum_by (λ c. row_length c.after) changed
 
 -- The need of these changes, the oldest first: the most that any of the last of them gave up more than they took.
 pub record IsNeed (changed : List Change) (need : ℕ) : Type 0 where
-  pub most : (front last : List Change) → changed ≡ front ++ last → lost last ≤ need + gained last
-  pub front : List Change
+  pub most : (earlier last : List Change) → changed ≡ earlier ++ last → lost last ≤ need + gained last
+  pub earlier : List Change
   pub last : List Change
-  pub cut : changed ≡ front ++ last
+  pub cut : changed ≡ earlier ++ last
   pub is : need + gained last ≡ lost last

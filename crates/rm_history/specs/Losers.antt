@@ -1,6 +1,6 @@
 -- The transactions that restart undoes and ends.
-use Rattle.std.specs.Prelude.{ℕ, ◌==◌, nat_lt, if◌then◌else◌, List, [], ◌∷◌}
-use Rattle.rm_history.specs.Acts.{History, changes, undoes, enters, commits, ends, lists}
+use Rattle.std.specs.Prelude.{◌≡◌, ℕ, ◌<◌, ◌==◌, nat_lt, if◌then◌else◌, List, [], ◌∷◌, ◌⊎◌}
+use Rattle.rm_history.specs.Acts.{History, changes, undoes, enters, commits, ends, marks}
 
 -- a list of numbers that rise, with a number more, and without one
 abbrev pub with_number : ℕ → List ℕ → List ℕ
@@ -19,4 +19,14 @@ losers_of (undoes u ∷ before) = with_number u.txn (losers_of before)
 losers_of (enters e ∷ before) = with_number e.txn (losers_of before)
 losers_of (commits f ∷ before) = without_number f.txn (losers_of before)
 losers_of (ends f ∷ before) = without_number f.txn (losers_of before)
-losers_of (lists l ∷ before) = losers_of before
+losers_of (marks m ∷ before) = losers_of before
+
+-- the number is in the list
+abbrev pub IsAmong : List ℕ → ℕ → Type 0
+IsAmong [] n = ⊥
+IsAmong (first ∷ rest) n = (first ≡ n) ⊎ IsAmong rest n
+
+-- each number of the list is above those before it
+abbrev pub AreRising : List ℕ → Type 0
+AreRising [] = Unit {0}
+AreRising (first ∷ rest) = ((n : ℕ) → IsAmong rest n → first < n) × AreRising rest

@@ -19,7 +19,7 @@ others_need history txn page = sum_below (λ other. if other == txn then 0 else 
 abbrev pub unreserved : History → ℕ → ℕ → ℕ
 unreserved history txn page = CAPACITY - (used (page_of history page) + others_need history txn page)
 
--- by its entry a page is not looked at for a row of so many bytes
+-- by its entry a page is not looked at for a row of `len` bytes
 abbrev pub IsExcluded : Format → ℕ → ℕ → Type 0
 IsExcluded format entry len = CAPACITY < category_bytes format * entry + len
 
@@ -29,15 +29,16 @@ pub record IsSlotForRow (IsHeld : ℕ → Type 0) (slots : List Slot) (number : 
   pub free : IsHeld number → ⊥
   pub least : (lower : ℕ) → lower < number → slot_at slots lower ≡ Vacant → (IsHeld lower → ⊥) → ⊥
 
--- the bytes by which a directory of so many slots grows for a slot with this number
+-- the bytes by which a directory with this many slots grows for a slot with this number
 abbrev pub growth_for : ℕ → ℕ → ℕ
 growth_for slots number = SLOT_ENTRY * ((number + 1) - slots)
 
--- A row of so many bytes fits into a slot, beside what the others' undo needs, and with room for the transaction's own;
--- so does a row that grows by so many.
+-- A row of `len` bytes fits into a slot, beside what the others' undo needs, and with room for the transaction's own;
+-- so does a row that grows by `growth` bytes.
 abbrev pub RowFits : History → ℕ → ℕ → ℕ → ℕ → Type 0
 RowFits history txn page number len =
-    used (page_of history page) + growth_for (length (page_of history page)) number + others_need history txn page + max len (need_of history txn page) ≤ CAPACITY
+    used (page_of history page) + growth_for (length (page_of history page)) number
+    + others_need history txn page + max len (need_of history txn page) ≤ CAPACITY
 
 abbrev pub GrowthFits : History → ℕ → ℕ → ℕ → Type 0
 GrowthFits history txn page growth = used (page_of history page) + others_need history txn page + max growth (need_of history txn page) ≤ CAPACITY

@@ -1,7 +1,8 @@
--- Which records may stand behind which, but for the inventory.
+-- Which record may come after which others, but for the inventory.
 use Rattle.std.specs.Prelude.{◌≡◌, ℕ, ◌<◌, List, [], ◌∷◌, ◌⊎◌}
 use Rattle.rm_types.specs.declared.places.Place.{Place}
-use Rattle.rm_history.specs.Acts.{Act, Change, Undo, Entry, Finish, Listing, History, changes, undoes, enters, commits, ends, lists, lsn_of, newest_lsn}
+use Rattle.rm_history.specs.Acts.{Act, Change, Undo, Entry, Finish, History, changes, undoes, enters, commits, ends, marks, lsn_of, newest_lsn}
+use Rattle.rm_history.specs.Acts.{Mark, Listing, lists}
 use Rattle.rm_history.specs.Contents.{slot_at, page_of}
 use Rattle.rm_history.specs.Pending.{pending_of, last_of}
 use Rattle.rm_history.specs.Transactions.{IsFinished, HasRecord, HasChange}
@@ -51,8 +52,14 @@ IsIn (first ∷ places) place = (first ≡ place) ⊎ IsIn places place
 -- a checkpoint may come now: it lists the unfinished transactions, each with its last pending record, and no others
 pub record MayList (before : History) (l : Listing) : Type 0 where
   pub next_is : (txn : ℕ) → HasRecord before txn → txn < l.next
-  pub all : (txn : ℕ) → (txn ≡ 0 → ⊥) → HasRecord before txn → (IsFinished before txn → ⊥) → IsIn l.losers (record { number = txn; at = last_of (pending_of before txn) })
-  pub only : (loser : Place) → IsIn l.losers loser → HasRecord before loser.number × (IsFinished before loser.number → ⊥) × (loser.at ≡ last_of (pending_of before loser.number))
+  pub all : (txn : ℕ) → (txn ≡ 0 → ⊥) → HasRecord before txn → (IsFinished before txn → ⊥)
+      → IsIn l.losers (record { number = txn; at = last_of (pending_of before txn) })
+  pub only : (loser : Place) → IsIn l.losers loser
+      → HasRecord before loser.number × (IsFinished before loser.number → ⊥) × (loser.at ≡ last_of (pending_of before loser.number))
+
+-- a record of no transaction may come now
+abbrev pub MayMark : History → Mark → Type 0
+MayMark before (lists l) = MayList before l
 
 -- the record may come now
 abbrev pub MayCome : History → Act → Type 0
@@ -61,9 +68,9 @@ MayCome before (undoes u) = MayUndo before u
 MayCome before (enters e) = MayEnter before e
 MayCome before (commits f) = IsFinished before f.txn → ⊥
 MayCome before (ends f) = MayEnd before f
-MayCome before (lists l) = MayList before l
+MayCome before (marks m) = MayMark before m
 
--- The record may stand behind these: its LSN is above theirs, it may come now, and with it each page has room.
+-- The record may come after these: its LSN is above theirs, it may come now, and with it each page has room.
 pub record Follows (before : History) (act : Act) : Type 0 where
   pub above : newest_lsn before < lsn_of act
   pub may_come : MayCome before act

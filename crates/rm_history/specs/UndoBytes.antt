@@ -1,4 +1,4 @@
--- What restart's undo adds to a log at the most, in the format that is in force.
+-- What restart's undo adds to a log at the most, where the log begins in a given format.
 use Rattle.std.specs.Prelude.{ℕ, ◌+◌, ◌==◌, if◌then◌else◌, List, [], ◌∷◌, length}
 use Rattle.rm_types.specs.declared.formats.Format.{Format}
 use Rattle.rm_record.specs.declared.records.LogRecord.{LogRecord}
@@ -31,19 +31,22 @@ some_lsn history = newest_lsn history + 1
 
 -- the history with the change's page entered, where that is wanted, and with the change undone
 abbrev pub with_entry : Format → History → Change → History
-with_entry format history last = if entry_of history last.rid.page == category_after format history last then history else enters (entry_for format (some_lsn history) history last) ∷ history
+with_entry start history last =
+    if entry_of history last.rid.page == category_after start history last then history else enters (entry_for start (some_lsn history) history last) ∷ history
 
 abbrev pub with_undo : Format → History → Change → History
-with_undo format history last = undoes (undo_for (some_lsn (with_entry format history last)) last) ∷ with_entry format history last
+with_undo start history last = undoes (undo_for (some_lsn (with_entry start history last)) last) ∷ with_entry start history last
 
--- the bytes of the record that enters the category behind an undo: none where the entry will be right
+-- the bytes of the record that enters the category after an undo: none where the entry will be right
 abbrev pub entry_bytes : Format → History → Change → ℕ
-entry_bytes format history last = if entry_of history last.rid.page == category_after format history last then 0 else bytes_of (inventory_record (entry_for format 0 history last))
+entry_bytes start history last =
+    if entry_of history last.rid.page == category_after start history last then 0 else bytes_of (inventory_record (entry_for start 0 history last))
 
 -- the bytes of undoing these changes, one after the other
 abbrev pub undoing_bytes : Format → History → List Change → ℕ
-undoing_bytes format history [] = 0
-undoing_bytes format history (last ∷ rest) = entry_bytes format history last + bytes_of (compensate_record (undo_for 0 last)) + undoing_bytes format (with_undo format history last) rest
+undoing_bytes start history [] = 0
+undoing_bytes start history (last ∷ rest) =
+    entry_bytes start history last + bytes_of (compensate_record (undo_for 0 last)) + undoing_bytes start (with_undo start history last) rest
 
 -- the bytes of ending these transactions
 abbrev pub ending_bytes : List ℕ → ℕ
@@ -52,4 +55,4 @@ ending_bytes (txn ∷ rest) = bytes_of (end_record txn) + ending_bytes rest
 
 -- What restart's undo of a history adds to its log at the most.
 abbrev pub undo_bytes : Format → History → ℕ
-undo_bytes format history = undoing_bytes format history (all_pending history) + ending_bytes (losers_of history)
+undo_bytes start history = undoing_bytes start history (all_pending history) + ending_bytes (losers_of history)

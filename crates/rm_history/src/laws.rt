@@ -1,8 +1,8 @@
 //! What holds of all histories: functions without code, whose contracts are laws.
 
-ghost use Rattle.rm_history.specs.Laws.{LogsAreOne, ActsTellRecords, SettledWhenNothingIsPending, EmptyIsLegal, FrontsAreInOrder, LegalFronts, LegalIsInOrder, PendingIsChained, PendingIsOfOne, PagesHoldWhatIsPending, PagesHoldWhatIsCommitted};
+ghost use Rattle.rm_history.specs.Laws.{LogsAreOne, ActsDetermineRecords, SettledWhenNothingIsPending, EmptyIsLegal, PrefixesAreInOrder, LegalPrefixes, LegalIsInOrder, PendingIsChained, PendingIsOfOne, PagesHoldWhatIsPending, PagesHoldWhatIsCommitted, AllPendingIsOfEach, NoneOfFinished, LosersAreUnfinished};
 ghost use Rattle.rm_history.specs.RoomLaws.{NeedsGoOn, FittingIsRoom};
-ghost use Rattle.rm_history.specs.UndoLaws.{UndoesAreInOrder, NoUndoLacksRoom, RollbacksAreLegal, RestartsAreLegal, RestartsAreThere, UndoBytesGoDown};
+ghost use Rattle.rm_history.specs.UndoLaws.{UndoesAreInOrder, NoUndoLacksRoom, RollbacksAreLegal, RestartsAreLegal, RestartsExist, PartialRollbacksAreLegal, RestartsCompensateAll, UndoBytesGoDown};
 ghost use Rattle.rm_history.specs.LiteralLaws.{NetIsPending, RowsAreOfWinners, NeedIsTheMost};
 
 /// An area has one log.
@@ -10,19 +10,19 @@ pub fn an_area_has_one_log()
     ensures { LogsAreOne }
 {}
 
-/// What a record does, with its LSN, tells the record: a history of acts has all that its records have.
-pub fn an_act_tells_its_record()
-    ensures { ActsTellRecords }
+/// No two records do the same with the same LSN: a history of acts has all that its records have.
+pub fn an_act_determines_its_record()
+    ensures { ActsDetermineRecords }
 {}
 
 /// What stands before the newest records of a history in order is in order.
-pub fn a_front_of_a_history_in_order_is_in_order()
-    ensures { FrontsAreInOrder }
+pub fn a_prefix_of_a_history_in_order_is_in_order()
+    ensures { PrefixesAreInOrder }
 {}
 
 /// What stands before the newest records of a legal history is legal.
-pub fn what_a_legal_history_had_before_is_legal()
-    ensures { LegalFronts }
+pub fn a_prefix_of_a_legal_history_is_legal()
+    ensures { LegalPrefixes }
 {}
 
 /// A legal history is in order.
@@ -50,6 +50,21 @@ pub fn a_page_holds_what_is_committed()
     ensures { PagesHoldWhatIsCommitted }
 {}
 
+/// All that is pending is what is pending of each transaction, with LSNs that fall.
+pub fn all_pending_is_of_each_transaction()
+    ensures { AllPendingIsOfEach }
+{}
+
+/// A finished transaction has nothing pending.
+pub fn a_finished_transaction_has_nothing_pending()
+    ensures { NoneOfFinished }
+{}
+
+/// The losers are the unfinished transactions with a record, with ids that rise.
+pub fn losers_are_unfinished()
+    ensures { LosersAreUnfinished }
+{}
+
 /// The undo of a transaction's last pending change is in order: its page has the room. Of the inventory this says nothing.
 pub fn an_undo_is_in_order()
     ensures { UndoesAreInOrder }
@@ -65,14 +80,24 @@ pub fn a_rollback_is_legal()
     ensures { RollbacksAreLegal }
 {}
 
-/// Restart's undo is legal; behind it nothing is pending, each page holds the committed rows, and each entry is right.
+/// A partial rollback is legal, and leaves the committed rows and the rest of what is pending.
+pub fn a_partial_rollback_is_legal()
+    ensures { PartialRollbacksAreLegal }
+{}
+
+/// Restart's undo is legal; after it nothing is pending, each page holds the committed rows, and each entry is right.
 pub fn restart_is_legal()
     ensures { RestartsAreLegal }
 {}
 
+/// Restart's undo appends a compensation for each pending change.
+pub fn restart_compensates_each_pending_change()
+    ensures { RestartsCompensateAll }
+{}
+
 /// Restart's undo of a history can be made.
 pub fn every_history_can_be_restarted()
-    ensures { RestartsAreThere }
+    ensures { RestartsExist }
 {}
 
 /// The bytes of restart's undo go down by those of each record that it appends.
@@ -105,7 +130,7 @@ pub fn nothing_pending_means_settled()
     ensures { SettledWhenNothingIsPending }
 {}
 
-/// A need goes on by what a change gives up and takes, and back behind its undo; a finished transaction needs nothing.
+/// A need goes on by what a change gives up and takes, and back after its undo; a finished transaction needs nothing.
 pub fn needs_go_on()
     ensures { NeedsGoOn }
 {}

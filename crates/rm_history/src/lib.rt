@@ -9,15 +9,16 @@
 mod laws;
 
 pub use laws::{
-    a_front_of_a_history_in_order_is_in_order, a_legal_history_is_in_order,
+    a_finished_transaction_has_nothing_pending, a_legal_history_is_in_order,
     a_log_without_records_is_legal, a_need_is_the_most_of_all_suffixes,
-    a_page_holds_what_is_committed, a_page_holds_what_is_pending, a_rollback_is_legal,
-    an_act_tells_its_record, an_area_has_one_log, an_undo_is_in_order,
-    every_history_can_be_restarted, needs_go_on, net_changes_are_pending, no_undo_lacks_room,
+    a_page_holds_what_is_committed, a_page_holds_what_is_pending, a_partial_rollback_is_legal,
+    a_prefix_of_a_history_in_order_is_in_order, a_prefix_of_a_legal_history_is_legal,
+    a_rollback_is_legal, all_pending_is_of_each_transaction, an_act_determines_its_record,
+    an_area_has_one_log, an_undo_is_in_order, every_history_can_be_restarted,
+    losers_are_unfinished, needs_go_on, net_changes_are_pending, no_undo_lacks_room,
     nothing_pending_means_settled, pending_changes_are_a_chain,
-    pending_changes_of_a_row_id_are_of_one_transaction, restart_is_legal,
-    rows_are_those_of_the_winners, undo_bytes_go_down, what_a_legal_history_had_before_is_legal,
-    what_fits_leaves_room,
+    pending_changes_of_a_row_id_are_of_one_transaction, restart_compensates_each_pending_change,
+    restart_is_legal, rows_are_those_of_the_winners, undo_bytes_go_down, what_fits_leaves_room,
 };
 
 /// The bytes of a batch before its records: the gate byte and the length.

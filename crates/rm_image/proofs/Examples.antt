@@ -1,32 +1,21 @@
--- The definitions of blocks, redo, checkpoints and copies, on examples.
+-- The definitions of redo, checkpoints and copies, on examples.
 use Rattle.std.proofs.Common.{◌≡◌, ℕ, List, [], ◌∷◌, inl, inr, refl, arith, lit<, lit≤}
-use Rattle.rm_types.specs.declared.formats.Format.TheVariants.{One}
-use Rattle.rm_types.specs.declared.slots.Slot.TheVariants.{Vacant, Row}
-use Rattle.rm_history.specs.Acts.{Change, Finish, History, changes, enters, commits}
-use Rattle.rm_image.specs.Blocks.{entry_in, IsRowAt, AreApart, blocks_of}
+use Rattle.rm_types.specs.declared.slots.Slot.TheVariants.{Row}
+use Rattle.rm_history.specs.Acts.{History, enters}
 use Rattle.rm_image.specs.Standing.{StandsFor}
 use Rattle.rm_image.specs.Checkpoints.{place_or, least_of}
 use Rattle.rm_image.specs.Redo.{PageBlock, EntriesBlock, page_redone, entries_redone}
 use Rattle.rm_image.specs.Copies.{copied_page, copied_block}
+use Rattle.rm_image.proofs.ExampleLog.{row, committed}
 
-abbrev row : List ℕ
-row = 97 ∷ []
-
--- one insert into page 0, at LSN 5, and its commit at 29
-abbrev insert : Change
-insert = record { lsn = 5; txn = 1; under = 0; rid = record { page = 0; slot = 0 }; need = 0; before = Vacant; after = Row row }
-
-abbrev commit : Finish
-commit = record { lsn = 29; txn = 1 }
-
+-- the insert at LSN 5 and its commit at 29 stand in the batch with the gate 0
 abbrev history : History
-history = commits commit ∷ changes insert ∷ []
+history = committed
 
--- both stand in the batch with the gate 0
 abbrev gates : ℕ → ℕ
 gates lsn = 0
 
--- a block of zeros lacks the insert, which its redo offset allows; behind the batch it may lack no record
+-- a block of zeros lacks the insert, which its redo offset allows; after the batch it may lack no record
 lacks_it : StandsFor gates history 0 0 [] 0
 lacks_it = (λ le. absurd (omega (arith, le)), λ lt. (λ on. absurd on, (λ le. absurd (omega (arith, le)), λ more. (λ on. omega arith, (refl, refl)))))
 
@@ -45,7 +34,7 @@ other_page = (λ le. absurd (omega (arith, le)), λ lt. (λ on. absurd on, (λ l
 not_of_commit : StandsFor gates history 0 29 (Row row ∷ []) 0 → ⊥
 not_of_commit stands = omega (arith, (stands.0 (lit≤ tt)).0)
 
--- redo gives a block of zeros the insert, and leaves a block that has it; from behind the batch on it repeats nothing
+-- redo gives a block of zeros the insert, and leaves a block that has it; from the end of the batch on it repeats nothing
 abbrev zeros : PageBlock
 zeros = record { version = 0; slots = [] }
 
@@ -71,32 +60,6 @@ no_entries = record { version = 0; entries = λ index. 0 }
 sets_entry : ((entries_redone gates 0 0 entered no_entries).version ≡ 39) × ((entries_redone gates 0 0 entered no_entries).entries 1 ≡ 3)
     × ((entries_redone gates 0 0 entered no_entries).entries 0 ≡ 0) × ((entries_redone gates 0 1 entered no_entries).version ≡ 0)
 sets_entry = (refl, refl, refl, refl)
-
--- a row that ends where its block does, and one byte further
-ends_there : IsRowAt 1 4095 row
-ends_there = record { behind = lit≤ tt; short = lit≤ tt; inside = lit≤ tt }
-
-too_far : IsRowAt 1 4096 row → ⊥
-too_far at = omega (arith, at.inside)
-
--- and one that lies in the directory
-in_directory : IsRowAt 1 19 row → ⊥
-in_directory at = omega (arith, at.behind)
-
--- rows beside each other are apart, and rows of no bytes are anywhere
-beside : AreApart 100 (Row row) 101 (Row row)
-beside = inr (inr (inl (lit≤ tt)))
-
-empty : AreApart 100 (Row row) 100 (Row [])
-empty = inr (inl refl)
-
--- the four entries of a byte, the first in its lowest bits
-four_entries : (entry_in One 228 0 ≡ 0) × (entry_in One 228 1 ≡ 1) × (entry_in One 228 2 ≡ 2) × (entry_in One 228 3 ≡ 3)
-four_entries = (refl, refl, refl, refl)
-
--- the blocks of the inventory that so many pages want
-some_blocks : (blocks_of 1 ≡ 1) × (blocks_of 1024 ≡ 1) × (blocks_of 1025 ≡ 2) × (blocks_of 16384 ≡ 16)
-some_blocks = (refl, refl, refl, refl)
 
 -- a listed block has its own offset, any other that of the batch
 listed : (place_or (record { number = 3; at = 10 } ∷ []) 3 99 ≡ 10) × (place_or (record { number = 3; at = 10 } ∷ []) 4 99 ≡ 99)

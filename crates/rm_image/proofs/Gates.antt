@@ -5,18 +5,18 @@ use Rattle.rm_history.specs.Logs.{Batch, gate_of}
 use Rattle.rm_history.specs.Batched.{batch_of}
 use Rattle.rm_image.specs.Laws.{GatesRise}
 
--- none is behind the last gate
-within : (batches : List Batch) (lsn : ℕ) → batch_of batches lsn ≤ gate_of batches
+-- none is after the last gate
+pub within : (batches : List Batch) (lsn : ℕ) → batch_of batches lsn ≤ gate_of batches
 within [] lsn = omega arith
 within (batch ∷ batches) lsn = elim (cases_lt (gate_of batches) lsn) [
-  | inl behind ↦ rw (lt-ltb (gate_of batches) lsn behind) (omega arith)
+  | inl after ↦ rw (lt-ltb (gate_of batches) lsn after) (omega arith)
   | inr before ↦ rw (le-ltb (gate_of batches) lsn before) (omega (arith, within batches lsn))
 ]
 
 pub gates_rise : GatesRise
 gates_rise [] a b le = omega arith
 gates_rise (batch ∷ batches) a b le = elim (cases_lt (gate_of batches) b) [
-  | inl behind ↦ rw (lt-ltb (gate_of batches) b behind) (elim (cases_lt (gate_of batches) a) [
+  | inl after ↦ rw (lt-ltb (gate_of batches) b after) (elim (cases_lt (gate_of batches) a) [
     | inl both ↦ rw (lt-ltb (gate_of batches) a both) (omega arith)
     | inr before ↦ rw (le-ltb (gate_of batches) a before) (within batches a)
   ])

@@ -1,8 +1,11 @@
-pub mod FrontLemmas
-pub mod FrontLaws
-pub mod BlockLaws
-pub mod FreshLaws
-pub mod Gates
-pub mod Examples
-pub mod CheckpointLaws
+pub mod PrefixLemmas
+pub mod PrefixLaws
 pub mod RedoLaws
+pub mod Gates
+pub mod CheckpointLaws
+pub mod SoundLaws
+pub mod FreshLaws
+pub mod RedoneLaws
+mod ExampleLog
+mod Examples
+mod WholeExamples

@@ -5,13 +5,13 @@ use Rattle.std.proofs.lemmas.Bool.{cases_lt, eq-eqb, le-leb, le-ltb, and_from}
 use Rattle.rm_types.specs.declared.numbers.TheConstants.{BLOCK_PAGES}
 use Rattle.rm_types.specs.declared.slots.Slot.{Slot}
 use Rattle.rm_model.specs.Pages.{set_slot}
-use Rattle.rm_history.specs.Acts.{Act, Entry, History, changes, undoes, enters, commits, ends, lists, lsn_of, newest_lsn}
+use Rattle.rm_history.specs.Acts.{Act, Entry, History, changes, undoes, enters, commits, ends, marks, lsn_of, newest_lsn}
 use Rattle.rm_history.specs.Contents.{page_of, version_of, entry_of, block_version_of}
 use Rattle.rm_history.specs.Rules.{IsInOrder}
 use Rattle.rm_image.specs.Standing.{Stands, IsOnPage, IsInBlock, HoldsEntries}
 use Rattle.rm_image.specs.Redo.{PageBlock, EntriesBlock, repeated, entry_repeated, is_due, redone}
 use Rattle.rm_image.specs.Laws.{RedoBringsPagesUp, RedoBringsEntriesUp}
-use Rattle.rm_image.proofs.FrontLaws.{version_off, page_off, block_version_off, entry_off, version_within, block_version_within}
+use Rattle.rm_image.proofs.PrefixLaws.{version_off, page_off, block_version_off, entry_off, version_within, block_version_within}
 
 -- ---- which records are due
 
@@ -25,18 +25,18 @@ not_due : (gates : ℕ → ℕ) (from : ℕ) (act : Act) (version : ℕ) → lsn
 not_due gates from act version below =
     ap (λ (b : Bool). nat_le from (gates (lsn_of act)) && b) (le-ltb version (lsn_of act) below) ∙ and-false (nat_le from (gates (lsn_of act)))
 
--- What a block is behind a record, and which block holds what a history says.
-module _ (B : Type 0) (version : B → ℕ) (behind : Act → B → B) (Is : B → History → Type 0) (IsOnIt : Act → Type 0) where
+-- What a block is after a record, and which block holds what a history says.
+module _ (B : Type 0) (version : B → ℕ) (after : Act → B → B) (Is : B → History → Type 0) (IsOnIt : Act → Type 0) where
   -- What redo stands on: a record repeated goes on in the history, and so does any block at a record that is not on it.
   pub record IsRedo : Type 0 where
-    pub goes_on : (act : Act) (before : History) (block : B) → Is block before → Is (behind act block) (act ∷ before)
+    pub goes_on : (act : Act) (before : History) (block : B) → Is block before → Is (after act block) (act ∷ before)
     pub stays : (act : Act) (before : History) (block : B) → (IsOnIt act → ⊥) → Is block before → Is block (act ∷ before)
     pub within : (history : History) (block : B) → IsInOrder history → Is block history → version block ≤ newest_lsn history
 
   module _ (gates : ℕ → ℕ) (redo from : ℕ) where
     -- the block with the records of a history repeated
     abbrev again : History → B → B
-    again history block = redone version behind gates from history block
+    again history block = redone version after gates from history block
 
     -- nothing is due on a block whose version no LSN is above
     none_due : (history : History) (block : B) → IsInOrder history → newest_lsn history ≤ version block → again history block ≡ block
@@ -44,12 +44,12 @@ module _ (B : Type 0) (version : B → ℕ) (behind : Act → B → B) (Is : B �
     none_due (act ∷ before) block ordered top =
         let older : again before block ≡ block = none_due before block ordered.0 (omega (arith, ordered.1.above)) in
         let over : is_due gates from act (version (again before block)) ≡ false = not_due gates from act (version (again before block)) (omega (arith, ap version older, top)) in
-        ap (λ (b : Bool). cond b (behind act (again before block)) (again before block)) over ∙ older
+        ap (λ (b : Bool). cond b (after act (again before block)) (again before block)) over ∙ older
 
     module _ (is_redo : IsRedo) (le : from ≤ redo) where
       -- one record more, above the version: it is repeated, or it is not on the block
       one_more : (act : Act) (before : History) (older : B) (test : Bool) → is_due gates from act (version older) ≡ test → version older < lsn_of act
-          → (IsOnIt act → redo ≤ gates (lsn_of act)) → Is older before → Is (cond test (behind act older) older) (act ∷ before)
+          → (IsOnIt act → redo ≤ gates (lsn_of act)) → Is older before → Is (cond test (after act older) older) (act ∷ before)
       one_more act before older true is above late holds = is_redo.goes_on act before older holds
       one_more act before older false is above late holds =
           let off : IsOnIt act → ⊥ = λ on. let yes : is_due gates from act (version older) ≡ true = due gates from act (version older) (omega (arith, late on)) above in cc in
@@ -71,10 +71,10 @@ module _ (B : Type 0) (version : B → ℕ) (behind : Act → B → B) (Is : B �
 -- ---- the block of a page
 
 -- the block has this version and these slots
-abbrev HasSlots : PageBlock → ℕ → List Slot → Type 0
+abbrev pub HasSlots : PageBlock → ℕ → List Slot → Type 0
 HasSlots block version slots = (block.version ≡ version) × (block.slots ≡ slots)
 
--- so it has behind a record that sets a slot of the page, or of another
+-- so it has after a record that sets a slot of the page, or of another
 slot_set : (here : Bool) (lsn number : ℕ) (slot : Slot) (block : PageBlock) (version : ℕ) (slots : List Slot) → HasSlots block version slots
     → HasSlots (cond here (record { version = lsn; slots = set_slot block.slots number slot }) block) (cond here lsn version) (cond here (set_slot slots number slot) slots)
 slot_set true lsn number slot block version slots has = (refl, ap (λ (s : List Slot). set_slot s number slot) has.1)
@@ -82,7 +82,7 @@ slot_set false lsn number slot block version slots has = has
 
 module _ (page : ℕ) where
   -- the block holds what the history says of the page
-  abbrev IsPage : PageBlock → History → Type 0
+  abbrev pub IsPage : PageBlock → History → Type 0
   IsPage block history = HasSlots block (version_of history page) (page_of history page)
 
   page_goes_on : (act : Act) (before : History) (block : PageBlock) → IsPage block before → IsPage (repeated page act block) (act ∷ before)
@@ -91,10 +91,10 @@ module _ (page : ℕ) where
   page_goes_on (enters e) before block is = is
   page_goes_on (commits f) before block is = is
   page_goes_on (ends f) before block is = is
-  page_goes_on (lists l) before block is = is
+  page_goes_on (marks m) before block is = is
 
   -- redo may stand on that
-  page_redo : IsRedo PageBlock (λ b. b.version) (repeated page) IsPage (IsOnPage page)
+  pub page_redo : IsRedo PageBlock (λ b. b.version) (repeated page) IsPage (IsOnPage page)
   page_redo = record {
     goes_on = page_goes_on;
     stays = λ act before block off is. (is.0 ∙ sym (version_off page act before off), is.1 ∙ sym (page_off page act before off));
@@ -111,13 +111,13 @@ redo_brings_pages_up gates history page version slots redo from ordered le stand
 
 -- ---- a block of the inventory
 
--- the entry of a page behind a record that enters a category of this page or another
+-- the entry of a page after a record that enters a category of this page or another
 entry_set : (here : Bool) (category other : ℕ) (old : ℕ) → old ≡ other → cond here category old ≡ cond here category other
 entry_set here category other old same = ap (λ (n : ℕ). cond here category n) same
 
 module _ (number : ℕ) where
   -- the block holds what the history says of its pages
-  abbrev AreEntries : EntriesBlock → History → Type 0
+  abbrev pub AreEntries : EntriesBlock → History → Type 0
   AreEntries block history = HoldsEntries number block.version block.entries history
 
   entered : (here : Bool) (e : Entry) (before : History) (block : EntriesBlock) → eqb (e.page / BLOCK_PAGES) number ≡ here → AreEntries block before
@@ -136,10 +136,10 @@ module _ (number : ℕ) where
   entries_go_on (enters e) before block is = entered (eqb (e.page / BLOCK_PAGES) number) e before block refl is
   entries_go_on (commits f) before block is = is
   entries_go_on (ends f) before block is = is
-  entries_go_on (lists l) before block is = is
+  entries_go_on (marks m) before block is = is
 
   -- redo may stand on that
-  entries_redo : IsRedo EntriesBlock (λ b. b.version) (entry_repeated number) AreEntries (IsInBlock number)
+  pub entries_redo : IsRedo EntriesBlock (λ b. b.version) (entry_repeated number) AreEntries (IsInBlock number)
   entries_redo = record {
     goes_on = entries_go_on;
     stays = λ act before block off is. (

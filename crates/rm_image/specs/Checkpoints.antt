@@ -3,10 +3,16 @@ use Rattle.std.specs.Prelude.{◌≡◌, ℕ, ◌≤◌, ◌<◌, ◌==◌, if�
 use Rattle.rm_types.specs.declared.places.Place.{Place}
 use Rattle.rm_master.specs.declared.fields.Fields.{Fields}
 use Rattle.rm_history.specs.Logs.{Batch}
-use Rattle.rm_history.specs.Acts.{Listing, History, changes, undoes, enters, commits, ends, lists}
+use Rattle.rm_history.specs.Acts.{Listing, Mark, History, lists, changes, undoes, enters, commits, ends, marks}
+use Rattle.rm_history.specs.Contents.{format_after}
 use Rattle.rm_history.specs.Rules.{IsIn}
 use Rattle.rm_history.specs.Batched.{acts_of_batches, IsGate, batch_of}
-use Rattle.rm_image.specs.Blocks.{blocks_of}
+use Rattle.rm_block.specs.Blocks.{IsSpacePlace}
+use Rattle.rm_image.specs.Starts.{Start, before_checkpoint}
+
+-- the record is this checkpoint
+abbrev pub IsListing : Mark → Listing → Type 0
+IsListing (lists l) listing = l ≡ listing
 
 -- the history has this checkpoint
 abbrev pub HasListing : History → Listing → Type 0
@@ -16,28 +22,18 @@ HasListing (undoes u ∷ before) listing = HasListing before listing
 HasListing (enters e ∷ before) listing = HasListing before listing
 HasListing (commits f ∷ before) listing = HasListing before listing
 HasListing (ends f ∷ before) listing = HasListing before listing
-HasListing (lists l ∷ before) listing = (l ≡ listing) ⊎ HasListing before listing
-
--- each place is of a block below this number, with the gate of a batch that is not behind this one
-abbrev pub AreGates : List Batch → ℕ → ℕ → List Place → Type 0
-AreGates batches batch blocks places = (place : Place) → IsIn places place → (place.number < blocks) × IsGate batches place.at × (place.at ≤ batch)
+HasListing (marks m ∷ before) listing = IsListing m listing ⊎ HasListing before listing
 
 -- the master names this checkpoint of the log, in its batch
 pub record NamesListing (fields : Fields) (batches : List Batch) (listing : Listing) : Type 0 where
   pub is_there : HasListing (acts_of_batches batches) listing
   pub lsn_is : listing.lsn ≡ fields.checkpoint
   pub batch_is : batch_of batches listing.lsn ≡ fields.batch
-  pub pages_are : AreGates batches fields.batch fields.pages listing.pages
-  pub blocks_are : AreGates batches fields.batch (blocks_of fields.pages) listing.blocks
 
 -- the master names this checkpoint, or none
 abbrev pub HasCheckpoint : Fields → List Batch → Option Listing → Type 0
 HasCheckpoint fields batches None = fields.checkpoint ≡ 0
 HasCheckpoint fields batches (Some listing) = NamesListing fields batches listing
-
--- the checkpoint is sound: there is one of the log, where the master names one
-abbrev pub IsCheckpointSound : Fields → List Batch → Type 0
-IsCheckpointSound fields batches = (named : Option Listing) × HasCheckpoint fields batches named
 
 -- the blocks of pages that it lists, and those of the inventory
 abbrev pub listed_pages : Option Listing → List Place
@@ -48,18 +44,33 @@ abbrev pub listed_blocks : Option Listing → List Place
 listed_blocks None = []
 listed_blocks (Some listing) = listing.blocks
 
+-- each place is of a block of the file, with the gate of a batch that is not after this one
+abbrev pub AreGates : List Batch → ℕ → (ℕ → Type 0) → List Place → Type 0
+AreGates batches batch IsOfFile places = (place : Place) → IsIn places place → IsOfFile place.number × IsGate batches place.at × (place.at ≤ batch)
+
+-- The checkpoint is sound: there is one of the log, where the master names one, and it lists gates for blocks of the file as
+-- it was there.
+pub record IsCheckpointSound (start : Start) (fields : Fields) (batches : List Batch) : Type 0 where
+  pub named : Option Listing
+  pub has : HasCheckpoint fields batches named
+  pub pages : AreGates batches fields.batch (λ number. number < fields.pages) (listed_pages named)
+  pub blocks : AreGates batches fields.batch (IsSpacePlace (format_after start.format (before_checkpoint fields batches)) fields.pages) (listed_blocks named)
+
 -- where a list of places has the number, its offset, and else the other one
 abbrev pub place_or : List Place → ℕ → ℕ → ℕ
 place_or [] number other = other
 place_or (first ∷ places) number other = if first.number == number then first.at else place_or places number other
 
--- The redo offset of a page's block is the one that the checkpoint lists for it, or else the batch's gate; so is that of an
--- inventory block.
+-- The redo offset of a block is the one that the checkpoint lists for it, or else the batch's gate: of a page's block by the
+-- page's number, and of a block of the inventory by its place in area Space.
+abbrev pub IsRedoOffset : (Option Listing → List Place) → Fields → List Batch → ℕ → ℕ → Type 0
+IsRedoOffset listed fields batches number redo = (named : Option Listing) × HasCheckpoint fields batches named × (redo ≡ place_or (listed named) number fields.batch)
+
 abbrev pub IsRedoOfPage : Fields → List Batch → ℕ → ℕ → Type 0
-IsRedoOfPage fields batches page redo = (named : Option Listing) × HasCheckpoint fields batches named × (redo ≡ place_or (listed_pages named) page fields.batch)
+IsRedoOfPage = IsRedoOffset listed_pages
 
 abbrev pub IsRedoOfBlock : Fields → List Batch → ℕ → ℕ → Type 0
-IsRedoOfBlock fields batches block redo = (named : Option Listing) × HasCheckpoint fields batches named × (redo ≡ place_or (listed_blocks named) block fields.batch)
+IsRedoOfBlock = IsRedoOffset listed_blocks
 
 -- the least of the offsets of these places and of one more
 abbrev pub least_of : List Place → ℕ → ℕ
@@ -67,8 +78,9 @@ least_of [] other = other
 least_of (first ∷ places) other = min first.at (least_of places other)
 
 -- The redo point, from where on restart repeats the log: the least of all redo offsets, or the copy's start while the file is
--- being restored.
+-- being restored. (What restart has to know of transactions it reads from the checkpoint's batch on, then too.)
 abbrev pub IsRedoPoint : Fields → List Batch → ℕ → Type 0
 IsRedoPoint fields batches point =
     ((fields.restoring ≡ true) × (point ≡ fields.start))
-    ⊎ ((fields.restoring ≡ false) × ((named : Option Listing) × HasCheckpoint fields batches named × (point ≡ least_of (listed_pages named) (least_of (listed_blocks named) fields.batch))))
+    ⊎ ((fields.restoring ≡ false) × ((named : Option Listing) × HasCheckpoint fields batches named
+    × (point ≡ least_of (listed_pages named) (least_of (listed_blocks named) fields.batch))))

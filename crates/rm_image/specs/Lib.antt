@@ -1,8 +1,10 @@
-pub mod Blocks
 pub mod Standing
+pub mod Prefixes
+pub mod Redo
+pub mod Having
+pub mod Starts
 pub mod Checkpoints
 pub mod Copies
 pub mod Whole
-pub mod Fronts
-pub mod Redo
 pub mod Laws
+pub mod ImageLaws

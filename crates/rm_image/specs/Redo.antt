@@ -3,7 +3,7 @@ use Rattle.std.specs.Prelude.{ℕ, ◌+◌, ◌*◌, ◌/◌, ◌==◌, ◌&&◌
 use Rattle.rm_types.specs.declared.numbers.TheConstants.{BLOCK_PAGES}
 use Rattle.rm_types.specs.declared.slots.Slot.{Slot}
 use Rattle.rm_model.specs.Pages.{set_slot}
-use Rattle.rm_history.specs.Acts.{Act, History, changes, undoes, enters, commits, ends, lists, lsn_of}
+use Rattle.rm_history.specs.Acts.{Act, History, changes, undoes, enters, commits, ends, marks, lsn_of}
 
 -- what a page's block stands for, and what a block of the inventory does
 pub record PageBlock : Type 0 where
@@ -14,36 +14,37 @@ pub record EntriesBlock : Type 0 where
   pub version : ℕ
   pub entries : ℕ → ℕ
 
--- a page's block behind a record: one that names a slot of the page sets it
+-- a page's block after a record: one that names a slot of the page sets it
 abbrev pub repeated : ℕ → Act → PageBlock → PageBlock
 repeated page (changes c) block = if c.rid.page == page then record { version = c.lsn; slots = set_slot block.slots c.rid.slot c.after } else block
 repeated page (undoes u) block = if u.rid.page == page then record { version = u.lsn; slots = set_slot block.slots u.rid.slot u.back } else block
 repeated page (enters e) block = block
 repeated page (commits f) block = block
 repeated page (ends f) block = block
-repeated page (lists l) block = block
+repeated page (marks m) block = block
 
--- a block of the inventory behind a record: one that enters a category of a page of it sets that
+-- a block of the inventory after a record: one that enters a category of a page of it sets that
 abbrev pub entry_repeated : ℕ → Act → EntriesBlock → EntriesBlock
 entry_repeated number (changes c) block = block
 entry_repeated number (undoes u) block = block
-entry_repeated number (enters e) block =
-    if (e.page / BLOCK_PAGES) == number then record { version = e.lsn; entries = λ index. if e.page == (BLOCK_PAGES * number + index) then e.category else block.entries index } else block
+entry_repeated number (enters e) block = if (e.page / BLOCK_PAGES) == number
+    then record { version = e.lsn; entries = λ index. if e.page == (BLOCK_PAGES * number + index) then e.category else block.entries index }
+    else block
 entry_repeated number (commits f) block = block
 entry_repeated number (ends f) block = block
-entry_repeated number (lists l) block = block
+entry_repeated number (marks m) block = block
 
 -- a record is due: its batch's gate is not before the offset, and its LSN is above the version
 abbrev pub is_due : (ℕ → ℕ) → ℕ → Act → ℕ → Bool
 is_due gates from act version = nat_le from (gates (lsn_of act)) && nat_lt version (lsn_of act)
 
--- A block with all records of a history repeated that are due, the oldest first. What its version is, and what it is behind a
--- record, is said by two functions.
+-- A block with all records of a history repeated that are due, the oldest first. Two functions say what its version is, and what
+-- it is after a record.
 abbrev pub redone : {B : Type 0} → (B → ℕ) → (Act → B → B) → (ℕ → ℕ) → ℕ → History → B → B
-redone version behind gates from [] block = block
-redone version behind gates from (act ∷ before) block =
-    let older = redone version behind gates from before block in
-    if is_due gates from act (version older) then behind act older else older
+redone version after gates from [] block = block
+redone version after gates from (act ∷ before) block =
+    let older = redone version after gates from before block in
+    if is_due gates from act (version older) then after act older else older
 
 abbrev pub page_redone : (ℕ → ℕ) → ℕ → ℕ → History → PageBlock → PageBlock
 page_redone gates from page history block = redone (λ (b : PageBlock). b.version) (repeated page) gates from history block

@@ -2,7 +2,7 @@
 use Rattle.std.specs.Prelude.{◌≡◌, ℕ, ◌+◌, ◌*◌, ◌/◌, ◌≤◌, ◌<◌, List, [], ◌∷◌}
 use Rattle.rm_types.specs.declared.numbers.TheConstants.{BLOCK_PAGES}
 use Rattle.rm_types.specs.declared.slots.Slot.{Slot}
-use Rattle.rm_history.specs.Acts.{Act, History, changes, undoes, enters, commits, ends, lists, lsn_of}
+use Rattle.rm_history.specs.Acts.{Act, History, changes, undoes, enters, commits, ends, marks, lsn_of}
 use Rattle.rm_history.specs.Contents.{page_of, version_of, entry_of, block_version_of}
 
 -- the record sets a slot of the page; it enters a category in the block
@@ -12,7 +12,7 @@ IsOnPage page (undoes u) = u.rid.page ≡ page
 IsOnPage page (enters e) = ⊥
 IsOnPage page (commits f) = ⊥
 IsOnPage page (ends f) = ⊥
-IsOnPage page (lists l) = ⊥
+IsOnPage page (marks m) = ⊥
 
 abbrev pub IsInBlock : ℕ → Act → Type 0
 IsInBlock block (changes c) = ⊥
@@ -20,7 +20,7 @@ IsInBlock block (undoes u) = ⊥
 IsInBlock block (enters e) = e.page / BLOCK_PAGES ≡ block
 IsInBlock block (commits f) = ⊥
 IsInBlock block (ends f) = ⊥
-IsInBlock block (lists l) = ⊥
+IsInBlock block (marks m) = ⊥
 
 -- a page's block with this version and these slots holds what the history says; so does a block of the inventory with these categories
 abbrev pub HoldsPage : ℕ → ℕ → List Slot → History → Type 0

@@ -6,7 +6,7 @@ use Rattle.rm_record.specs.declared.records.Logged.{Logged}
 use Rattle.rm_history.specs.declared.TheConstants.{BATCH_HEADER}
 use Rattle.rm_history.specs.Logs.{gate_of, body_of, IsBatch, IsDamagedAt}
 use Rattle.rm_history.specs.Acts.{History}
-use Rattle.rm_history.specs.Batched.{acts_behind, acts_of_batches}
+use Rattle.rm_history.specs.Batched.{acts_after, acts_of_batches}
 use Rattle.rm_wal.specs.Batches.{ReadsBatch, ReadsBatches, IsWrongBehind}
 
 -- no batch yet
@@ -28,8 +28,8 @@ reads_next_batch {told} {area} {gate} {next} {old} {new} before one =
         subst (λ (n : ℕ). Shows area (n + 1) (body_of one.batch)) at (one.shown tells).1,
       );
       gate_is = omega (arith, one.next_is, at);
-      history_is = ap (λ (n : ℕ). acts_behind (acts_of_batches before.batches) (n + BATCH_HEADER) one.batch) (sym at)
-          ∙ ap (λ (h : History). acts_behind h (gate + BATCH_HEADER) one.batch) before.history_is ∙ sym one.acts_are;
+      history_is = ap (λ (n : ℕ). acts_after (acts_of_batches before.batches) (n + BATCH_HEADER) one.batch) (sym at)
+          ∙ ap (λ (h : History). acts_after h (gate + BATCH_HEADER) one.batch) before.history_is ∙ sym one.acts_are;
     }
 
 -- the next gate is behind this one

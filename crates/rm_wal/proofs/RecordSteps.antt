@@ -7,8 +7,8 @@ use Rattle.rm_record.specs.declared.records.Logged.{Logged}
 use Rattle.rm_record.specs.Records.{spelling, spelling_all, IsRecord}
 use Rattle.rm_history.specs.Logs.{Batch}
 use Rattle.rm_history.specs.Acts.{History, act_at, act_of, acts_of}
-use Rattle.rm_history.specs.Batched.{acts_behind}
-use Rattle.rm_history.proofs.Behind.{acts_behind-snoc, acts_of-snoc}
+use Rattle.rm_history.specs.Batched.{acts_after}
+use Rattle.rm_history.proofs.Appending.{acts_after-snoc, acts_of-snoc}
 use Rattle.rm_wal.specs.Batches.{BeginsWithNone, ReadsRecord, ReadsSome, ReadsAll, StopsAt}
 
 -- one record more
@@ -36,8 +36,8 @@ reads_one_more {base} {at} {size} {bytes} {rest} {old} {mid} {new} some one =
           ∙ ap (λ (l : List ℕ). l ++ drop size rest) (sym spelled);
       place = omega (arith, some.place, one.size_is, ap length spelled, length-append (spelling_all some.front) (spelling one.what));
       acts_are = ap acts_of one.added ∙ acts_of-snoc mid here ∙ ap (λ (h : History). act_of here ∷ h) some.acts_are
-          ∙ ap (λ (n : ℕ). act_at n one.what ∷ acts_behind (acts_of old) base some.front) some.place
-          ∙ sym (acts_behind-snoc (acts_of old) base some.front one.what);
+          ∙ ap (λ (n : ℕ). act_at n one.what ∷ acts_after (acts_of old) base some.front) some.place
+          ∙ sym (acts_after-snoc (acts_of old) base some.front one.what);
     }
 
 -- and then nothing is left

@@ -9,7 +9,7 @@ use Rattle.rm_record.specs.Records.{spelling, spelling_all, IsRecord}
 use Rattle.rm_history.specs.declared.TheConstants.{BATCH_HEADER}
 use Rattle.rm_history.specs.Logs.{Batch, gate_of, body_of, IsInRange, IsBatch, AreBatches, Stands, HasWrongLength, HasWrongRecord}
 use Rattle.rm_history.specs.Acts.{acts_of}
-use Rattle.rm_history.specs.Batched.{acts_behind, acts_of_batches}
+use Rattle.rm_history.specs.Batched.{acts_after, acts_of_batches}
 
 -- no record's spelling begins the bytes
 pub record BeginsWithNone (bytes : List ℕ) : Type 0 where
@@ -29,14 +29,14 @@ pub record ReadsSome (base : ℕ) (bytes : List ℕ) (at : ℕ) (rest : List ℕ
   pub are : AllByRecursion IsRecord front
   pub cut : bytes ≡ spelling_all front ++ rest
   pub place : at ≡ base + length (spelling_all front)
-  pub acts_are : acts_of new ≡ acts_behind (acts_of old) base front
+  pub acts_are : acts_of new ≡ acts_after (acts_of old) base front
 
 -- the bytes are these records, which were put behind the old ones
 pub record ReadsAll (base : ℕ) (bytes : List ℕ) (old new : List Logged) : Type 0 where
   pub batch : Batch
   pub are : AllByRecursion IsRecord batch
   pub spelled : bytes ≡ spelling_all batch
-  pub acts_are : acts_of new ≡ acts_behind (acts_of old) base batch
+  pub acts_are : acts_of new ≡ acts_after (acts_of old) base batch
 
 -- the bytes are some records and then, from that place on, bytes that begin with none
 pub record StopsAt (base : ℕ) (bytes : List ℕ) (at : ℕ) : Type 0 where
@@ -72,7 +72,7 @@ pub record ReadsBatch (told : Type 0) (area : Bytes) (gate next : ℕ) (old new 
   pub is : IsBatch gate batch
   pub shown : told → (area gate ≡ 1) × Shows area (gate + 1) (body_of batch)
   pub next_is : next ≡ gate + (BATCH_HEADER + length (spelling_all batch))
-  pub acts_are : acts_of new ≡ acts_behind (acts_of old) (gate + BATCH_HEADER) batch
+  pub acts_are : acts_of new ≡ acts_after (acts_of old) (gate + BATCH_HEADER) batch
 
 -- what was read at a gate: no batch, or one
 abbrev pub ReadsGate : Type 0 → Bytes → ℕ → List Logged → List Logged → Option ℕ → Type 0

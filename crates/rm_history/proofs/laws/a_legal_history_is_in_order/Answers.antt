@@ -1,4 +1,4 @@
-use Rattle.rm_history.proofs.Fronts.{legal_is_in_order}
+use Rattle.rm_history.proofs.Prefixes.{legal_is_in_order}
 use Rattle.rm_history.proofs.laws.a_legal_history_is_in_order.Goals as goal
 
 pub returns : goal.returns

@@ -1,5 +1,0 @@
-use Rattle.rm_history.proofs.Fronts.{fronts_are_in_order}
-use Rattle.rm_history.proofs.laws.a_front_of_a_history_in_order_is_in_order.Goals as goal
-
-pub returns : goal.returns
-returns c = fronts_are_in_order

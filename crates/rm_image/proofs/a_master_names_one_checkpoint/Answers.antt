@@ -1,5 +1,0 @@
-use Rattle.rm_image.proofs.CheckpointLaws.{checkpoints_are_one}
-use Rattle.rm_image.proofs.a_master_names_one_checkpoint.Goals as goal
-
-pub returns : goal.returns
-returns c = checkpoints_are_one

@@ -1,5 +1,0 @@
-use Rattle.rm_image.proofs.BlockLaws.{inventory_blocks_are_one}
-use Rattle.rm_image.proofs.an_inventory_block_stands_for_one_list.Goals as goal
-
-pub returns : goal.returns
-returns c = inventory_blocks_are_one
