@@ -141,8 +141,8 @@ no_misfit content at misfit image =
 
 pub sound_is_not_damaged : (content : Image) (area : Area) (at : ℕ) → IsDamage content area at → IsPlainImage content → ⊥
 sound_is_not_damaged content Master at damaged image = master_not_damaged (content Master) at image.fields damaged image.sound.master
-sound_is_not_damaged content Log at (inl damaged) image = damaged_has_no_log (content Log) at image.batches damaged image.sound.has_log
-sound_is_not_damaged content Log at (inr (inl names)) image = no_checkpoint content at names image
+sound_is_not_damaged content Log at (inl names) image = no_checkpoint content at names image
+sound_is_not_damaged content Log at (inr (inl damage)) image = damaged_has_no_log (content Log) at image.batches damage.damage image.sound.has_log
 sound_is_not_damaged content Log at (inr (inr misfit)) image = no_misfit content at misfit image
 sound_is_not_damaged content Data at damaged image = damaged
 sound_is_not_damaged content Space at damaged image = damaged

@@ -7,7 +7,7 @@ pub returns-in_err-attached-clause-explained : goal.returns-in_err-attached-clau
 returns-in_err-attached-clause-explained g c =
     let p = err_from_is_err_and c.from_residual.result c.from_residual.ensures.1 in
     rw (p.1, p.2) (explains_store (IsTrue g.V.Volume.tells) (g.V.Volume.content c.args.volume.now) (g.V.Volume.faults c.args.volume.now) (g.V.Volume.faults c.attach.new.volume)
-    c.args.fields.now c.attach.result c.in_err-attached.field-0.0 c.in_err-attached.was c.requires.fields c.attach.ensures.damaged c.attach.ensures.cause)
+    c.args.fields.now c.attach.result c.in_err-attached.field-0.0 c.in_err-attached.was c.requires.fields c.requires.none c.attach.ensures.damaged c.attach.ensures.cause)
 
 pub returns-clause-opened : goal.returns-clause-opened
 returns-clause-opened g c =
