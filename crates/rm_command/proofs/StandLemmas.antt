@@ -62,8 +62,7 @@ module _ (from here : Engine) (left leaves : Image → Type 0) (before mid : ℕ
   -- between two lines
   pub leaves_now : (next : Option Line) → LeavesRun from left leaves before mid past half lines replies next
   leaves_now next = λ pages count rows at_start idle.
-      let stood = stands pages count rows at_start idle in
-      (
+      let stood = stands pages count rows at_start idle in (
         weaker stood.1 (asked_within count rows lines replies next),
         λ c now. acknowledged_now count rows lines replies c (holds_now _ _ _ _ _ _ _ _ stood.0.at c now),
       )

@@ -17,7 +17,7 @@ use Rattle.rm_engine.proofs.Runs.{acknowledged-snoc, rows_after-stays}
 use Rattle.rm_engine.proofs.GoingOn.{committed_more}
 
 -- who commits has a transaction, and the reply is that it committed
-commit_open : (core : Core) (asked : Line) → IsCommitOf core asked → core.active ≡ true
+pub commit_open : (core : Core) (asked : Line) → IsCommitOf core asked → core.active ≡ true
 commit_open core line.Commit commits = commits
 commit_open core asked commits = absurd commits
 
