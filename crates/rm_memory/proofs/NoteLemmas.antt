@@ -6,7 +6,7 @@ use Rattle.rm_types.specs.declared.areas.Area.{Area}
 use Rattle.rm_memory.specs.declared.notes.Put.{Put}
 use Rattle.rm_memory.specs.declared.notes.Note.{Note}
 use Rattle.rm_memory.specs.declared.notes.Note.TheVariants.{Wrote, Synced}
-use Rattle.rm_memory.specs.Puts.{is_same}
+use Rattle.rm_outside.specs.Areas.{is_same}
 use Rattle.rm_outside.specs.Images.{Image}
 use Rattle.rm_memory.specs.History.{Event, Write, Sync, content}
 use Rattle.rm_memory.specs.Notes.{events_onto, history, total, synced_in}

@@ -3,7 +3,8 @@ use Rattle.std.specs.Prelude.{ℕ, ◌+◌, ◌<◌, ◌≤◌, List, vec_len, v
 use Rattle.rm_types.specs.declared.areas.Area.{Area}
 use Rattle.rm_outside.specs.Images.{Image}
 use Rattle.rm_memory.specs.declared.medium.Medium.{Medium}
-use Rattle.rm_memory.specs.Areas.{of_area, image_of}
+use Rattle.rm_outside.specs.PerArea.{of_area}
+use Rattle.rm_memory.specs.Areas.{image_of}
 use Rattle.rm_memory.specs.History.{Event, content}
 use Rattle.rm_memory.specs.Notes.{history}
 

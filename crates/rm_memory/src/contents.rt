@@ -4,9 +4,10 @@ ghost use Rattle.std.specs.Prelude.{◌≡◌, ℕ, ◌+◌, ◌<◌, ◌≤◌,
 ghost use Rattle.rm_types.specs.declared.areas.Area.{Area};
 ghost use Rattle.rm_outside.specs.Images.{Shows};
 ghost use Rattle.rm_memory.specs.Puts.{put_bytes, put};
-ghost use Rattle.rm_memory.specs.Areas.{of_area, image_of};
+ghost use Rattle.rm_outside.specs.PerArea.{of_area};
+ghost use Rattle.rm_memory.specs.Areas.{image_of};
 
-use crate::areas::PerArea;
+use rm_outside::PerArea;
 use rm_types::{Area, NoMemory};
 use std::alloc::Global;
 

@@ -8,10 +8,10 @@ ghost use Rattle.rm_memory.specs.History.{content, Write, Sync};
 ghost use Rattle.rm_memory.specs.Crashes.{none, left};
 ghost use Rattle.rm_memory.specs.Notes.{history, total};
 
-use crate::areas::PerArea;
 use crate::contents::{copy_of, make_room, no_bytes, put_bytes, read_bytes};
 use crate::crash::image_left;
 use crate::notes::{Note, Put};
+use rm_outside::PerArea;
 use rm_types::{Area, NoMemory};
 use std::alloc::Global;
 
