@@ -17,6 +17,9 @@ use rm_types::{MAX_LOG, MAX_PAGES, Reply};
 use std::alloc::Global;
 use std::test::Fail;
 
+/// The last id.
+const LAST: u64 = u32::MAX as u64;
+
 /// A session that has not ended, and its volume.
 #[derive(Drop)]
 struct Stand {
@@ -27,23 +30,19 @@ struct Stand {
 }
 
 impl Stand {
-    /// A session on a new volume, whose log may have `limit` bytes and whose first transaction gets the id `next`.
-    /// The call of the volume with that number fails from there on, if it is not 0.
-    fn new(alloc: Global, pages: u32, limit: u64, next: u64, call: u64) -> Result<Stand, Fail>
-        requires pages { (1 ≤ pages) × (pages ≤ MAX_PAGES) }
+    /// A session on a new volume of one page, whose log may have `limit` bytes and whose first transaction gets the id
+    /// `next`.
+    fn new(alloc: Global, limit: u64, next: u64) -> Result<Stand, Fail>
         requires limit { limit ≤ MAX_LOG }
         requires next { (1 ≤ next) × (next ≤ 2 ^ 32) }
     {
         let mut volume = MemVolume::new(alloc);
-        Master::create(&mut volume, pages)?;
+        Master::create(&mut volume, 1)?;
         let opened = restart(alloc, &mut volume, limit)?;
         if opened.pages.len() > MAX_PAGES as usize {
             return Err("too many pages".into());
         }
         let engine = Engine::new(opened.pages, next, opened.log);
-        if call > 0 {
-            volume.fail_call(call)?;
-        }
         Ok(Stand { engine, volume })
     }
 
@@ -77,45 +76,29 @@ impl Stand {
     }
 }
 
-/// Pages, the log's limit, the next id and the call that fails; the lines; and their replies. A transaction with an
-/// insert of two bytes needs 190 bytes of log at most, and its batch ends at 35.
-const CASES: &str = "1 68 1 0|begin|LogFull { end: 5 }
-1 69 1 0|begin;insert $a 2*07;commit|begin 1;LogFull { end: 5 }
-1 189 1 0|begin;insert $a 2*07;commit|begin 1;LogFull { end: 5 }
-1 190 1 0|begin;insert $a 2*07;commit|begin 1;inserted 0.0;committed;
-1 224 1 0|begin;insert $a 2*07;commit;begin;insert $a 2*07|begin 1;inserted 0.0;committed;begin 2;LogFull { end: 40 }
-1 225 1 0|begin;insert $a 2*07;commit;begin;insert $a 2*07|begin 1;inserted 0.0;committed;begin 2;inserted 0.1;
-1 9999 1 0|begin;insert $a 4076*07;insert $a 4076*07;insert $a 0*07;commit|begin 1;inserted 0.0;nospace;nospace;committed;
-2 9999 1 0|begin;insert $a 4076*07;insert $a 4076*07;insert $a 0*07;commit|begin 1;inserted 0.0;inserted 1.0;nospace;committed;
-1 4264 1 0|begin;insert $a 4076*07;insert $a 0*07;commit|begin 1;inserted 0.0;nospace;committed;
-1 999 4294967295 0|begin;commit;begin|begin 4294967295;committed;TxnsSpent { last: TxnId(4294967295) }
-1 999 4294967296 0|begin;commit;begin|TxnsSpent { last: TxnId(4294967295) }
-1 999 1 1|begin;insert $a 2*07;commit|begin 1;inserted 0.0;Fault(Volume { area: Log })
-1 999 1 2|begin;insert $a 2*07;commit|begin 1;inserted 0.0;Fault(Volume { area: Log })
-1 999 1 3|begin;insert $a 2*07;commit|begin 1;inserted 0.0;Fault(Volume { area: Log })
-1 999 1 4|begin;insert $a 2*07;commit|begin 1;inserted 0.0;Fault(Volume { area: Log })
-1 999 1 5|begin;insert $a 2*07;commit|begin 1;inserted 0.0;committed;";
-
-/// The session of a case.
-fn stand_of(alloc: Global, numbers: &str) -> Result<Stand, Fail> {
-    let words: Vec<&str> = numbers.split(' ').collect(alloc)?;
-    let [pages, limit, next, call] = words.as_slice() else {
-        return Err("no numbers".into());
-    };
-    let pages = pages.parse::<u32>()?.max(1).min(MAX_PAGES);
-    let limit = limit.parse::<u64>()?.min(MAX_LOG);
-    let next = next.parse::<u64>()?.max(1).min(1 << 32);
-    Stand::new(alloc, pages, limit, next, call.parse::<u64>()?)
-}
+/// The log's limit and the next id; the lines; and their replies. A transaction with an insert of two bytes needs 190
+/// bytes of log at most, and its batch ends at 35.
+const CASES: &str = "68 1|begin|LogFull { end: 5 }
+69 1|begin;insert $a 2*07;commit|begin 1;LogFull { end: 5 }
+189 1|begin;insert $a 2*07;commit|begin 1;LogFull { end: 5 }
+190 1|begin;insert $a 2*07;commit|begin 1;inserted 0.0;committed;
+224 1|begin;insert $a 2*07;commit;begin;insert $a 2*07|begin 1;inserted 0.0;committed;begin 2;LogFull { end: 40 }
+225 1|begin;insert $a 2*07;commit;begin;insert $a 2*07|begin 1;inserted 0.0;committed;begin 2;inserted 0.1;
+4264 1|begin;insert $a 4076*07;insert $a 0*07;commit|begin 1;inserted 0.0;nospace;committed;
+999 4294967295|begin;commit;begin|begin 4294967295;committed;TxnsSpent { last: TxnId(4294967295) }
+999 4294967296|begin;commit;begin|TxnsSpent { last: TxnId(4294967295) }";
 
 #[test]
 fn a_session_fits_exactly_or_ends(rt: HostRuntime) -> Result<(), Fail> {
     let alloc = rt.alloc();
     for case in CASES.split('\n') {
         let (numbers, rest) = case.split_once('|').ok_or("no lines")?;
+        let (limit, next) = numbers.split_once(' ').ok_or("no id")?;
         let (script, due) = rest.split_once('|').ok_or("no replies")?;
-        let script = read_plain(alloc, lines(alloc, script)?.as_str().as_bytes())?;
-        let told = stand_of(alloc, numbers)?.told(alloc, &script.lines)?;
+        let script = read_plain(alloc, lines(alloc, script)?.as_bytes())?;
+        let (limit, next) = (limit.parse::<u64>()?, next.parse::<u64>()?);
+        assert!(rt; limit <= MAX_LOG && 1 <= next && next <= LAST + 1);
+        let told = Stand::new(alloc, limit, next)?.told(alloc, &script.lines)?;
         assert_eq!(rt; told.as_str(), lines(alloc, due)?.as_str(), "{case}");
     }
     Ok(())

@@ -24,8 +24,6 @@ mod scripts;
 #[cfg(test)]
 mod spellings;
 #[cfg(test)]
-mod streams;
-#[cfg(test)]
 mod texts;
 #[cfg(test)]
 mod volumes;
