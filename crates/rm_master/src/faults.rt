@@ -13,7 +13,7 @@ pub enum MasterFault {
     #[error("the volume is not made: create it first")]
     NotMade,
     /// The volume failed, or its current slot is damaged.
-    #[error("the volume's master was not read: {0:?}")]
+    #[error("{0}")]
     Fault(rm_types::Fault),
 }
 
@@ -32,7 +32,7 @@ pub enum CreateFault {
     #[error("the volume is made already: it was left as it was")]
     AlreadyMade,
     /// The volume failed.
-    #[error("the volume was not made, and may be made in part: {0:?}")]
+    #[error("the volume may be made in part: {0}")]
     Fault(rm_types::Fault),
 }
 

@@ -112,7 +112,7 @@ pub fresh_content : (base : Image) (notes : List Note) (bytes : List ℕ) → no
 unfolding content
 fresh_content base notes bytes fresh = ap (λ (es : List Event). content base es) (fresh_history notes bytes fresh)
 
--- a sync that is noted, or is not for want of memory
+-- a sync that is noted, or is not where memory runs out
 pub pushed_total : (pushed : Bool) (notes after : List Note) (area : Area) → after ≡ (if pushed then notes ++ Synced area ∷ [] else notes) → total after ≡ total notes
 pushed_total true notes after area is = ap (λ (ns : List Note). total ns) is ∙ total_synced notes area
 pushed_total false notes after area is = ap (λ (ns : List Note). total ns) is

@@ -42,7 +42,7 @@ fn put_at(area: &mut Vec<u8>, at: usize, bytes: &[u8])
     area[at..at + bytes.len()].copy_from_slice(bytes);
 }
 
-// Lengthens that area so that so many bytes have room.
+// Lengthens that area, to `end` bytes at least.
 pub fn make_room(areas: &mut PerArea<Vec<u8>>, area: Area, end: usize) -> Result<(), NoMemory>
     ensures same { image_of areas.new ≡ image_of areas.old }
     ensures long { OnOk result (end ≤ vec_len (of_area areas.new area)) }
@@ -71,7 +71,7 @@ pub fn put_bytes(areas: &mut PerArea<Vec<u8>>, area: Area, at: usize, bytes: &[u
     }
 }
 
-// Puts the bytes, and makes the room that they want.
+// Puts the bytes, and makes room for them.
 pub fn write_bytes(
     areas: &mut PerArea<Vec<u8>>,
     area: Area,
