@@ -3,7 +3,7 @@ use Rattle.std.proofs.Common.{◌≡◌, inl, inr, ℕ, Bool, true, false, List,
 use Rattle.std.specs.Prelude.{MatchBool}
 use Rattle.rm_types.specs.declared.areas.Area.{Area}
 use Rattle.rm_types.specs.declared.faults.Fault.TheVariants as fault
-use Rattle.rm_types.specs.declared.lines.Line.{Line}
+use Rattle.rm_script.specs.declared.lines.Line.{Line}
 use Rattle.rm_types.specs.declared.slots.Slot.{Slot}
 use Rattle.rm_types.specs.declared.numbers.TheConstants.{MAX_LOG}
 use Rattle.rm_types.specs.declared.numbers.TxnId.{TxnId}
@@ -14,7 +14,7 @@ use Rattle.rm_outside.specs.Moments.{LeavesOnly, joined, weaker}
 use Rattle.rm_outside.specs.Streams.{Takes}
 use Rattle.rm_outside.proofs.StreamLemmas.{Takes-append}
 use Rattle.rm_model.specs.Object.{Rows}
-use Rattle.rm_model.specs.Session.{State, opened}
+use Rattle.rm_session.specs.Session.{State, opened}
 use Rattle.rm_master.specs.Slots.{IsUnmade}
 use Rattle.rm_history.specs.Logs.{Batch}
 use Rattle.rm_history.specs.Rows.{rows_of_log}

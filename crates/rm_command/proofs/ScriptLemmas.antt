@@ -2,8 +2,8 @@
 use Rattle.std.proofs.Common.{ℕ, Bool, true, false, List, [], Option, refl, inl, inr}
 use Rattle.std.specs.Prelude.{MatchBool}
 use Rattle.rm_types.specs.declared.areas.Area.{Area}
-use Rattle.rm_types.specs.declared.lines.Line.{Line}
-use Rattle.rm_model.specs.Grammar.{IsTurns, IsWithinLimits}
+use Rattle.rm_script.specs.declared.lines.Line.{Line}
+use Rattle.rm_script.specs.Grammar.{IsTurns, IsWithinLimits}
 use Rattle.rm_outside.specs.Images.{Image}
 use Rattle.rm_outside.specs.Moments.{LeavesOnly, started}
 use Rattle.rm_outside.proofs.StreamLemmas.{Takes-none}

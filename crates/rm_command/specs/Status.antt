@@ -2,8 +2,8 @@
 use Rattle.std.specs.Prelude.{ℕ, List, [], ◌++◌, codes, decimal}
 use Rattle.rm_types.specs.declared.areas.Area.{Area}
 use Rattle.rm_types.specs.declared.areas.Area.TheVariants as area
-use Rattle.rm_types.specs.declared.lines.Which.{Which}
-use Rattle.rm_types.specs.declared.lines.Which.TheVariants as which
+use Rattle.rm_script.specs.declared.lines.Which.{Which}
+use Rattle.rm_script.specs.declared.lines.Which.TheVariants as which
 use Rattle.rm_engine.specs.declared.faults.TurnFault.{TurnFault}
 use Rattle.rm_engine.specs.declared.faults.TurnFault.TheVariants as turn
 use Rattle.rm_script.specs.declared.refused.ScriptRefused.{ScriptRefused}

@@ -6,7 +6,7 @@ use Rattle.rm_types.specs.declared.slots.Slot.{Slot}
 use Rattle.rm_types.specs.declared.numbers.TheConstants.{MAX_LOG}
 use Rattle.rm_outside.specs.Images.{Image}
 use Rattle.rm_outside.specs.Moments.{LeavesOnly}
-use Rattle.rm_model.specs.Texts.{created_line, restart_line}
+use Rattle.rm_script.specs.Texts.{created_line, restart_line}
 use Rattle.rm_master.specs.declared.fields.TheConstants.{MADE, MADE_AT}
 use Rattle.rm_master.specs.Slots.{IsUnmade}
 use Rattle.rm_master.specs.Fresh.{IsFresh}

@@ -2,15 +2,15 @@
 
 ghost use Rattle.std.specs.Prelude.{◌≡◌, ◌+◌, ◌^◌, ◌<◌, ◌≤◌, [], length, OnOk, IsErrOf};
 ghost use Rattle.rm_outside.specs.Faults.{Rises};
-ghost use Rattle.rm_model.specs.Session.{fresh};
+ghost use Rattle.rm_session.specs.Session.{fresh};
 ghost use Rattle.rm_command.specs.Running.{Did, DidSome, DidAll, Broke};
 
 use crate::stops::Stop;
 use crate::writing::{flush, flush_if_long};
 use rm_outside::Sink;
-use rm_script::reply_text;
+use rm_script::{Line, reply_text};
 use rm_session::Session;
-use rm_types::{Line, Lsn};
+use rm_types::Lsn;
 use std::alloc::Global;
 
 /// How many pages the rows of `plain` are put in.

@@ -10,8 +10,8 @@ use itoa::Buffer;
 use rm_engine::TurnFault;
 use rm_master::CreateFault;
 use rm_restart::RestartFault;
-use rm_script::ScriptRefused;
-use rm_types::{Area, Fault, TxnId, Which};
+use rm_script::{ScriptRefused, Which};
+use rm_types::{Area, Fault, TxnId};
 
 /// The most bytes that a status line has.
 pub const LINE_ROOM: usize = 64;

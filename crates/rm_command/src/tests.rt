@@ -7,7 +7,8 @@ use crate::statuses::LINE_ROOM;
 use crate::{Status, run_command};
 use fakes::{FakeSink, FakeSource, Fault};
 use rm_memory::MemVolume;
-use rm_types::{MAX_BYTES, MAX_LINES, MAX_ROW, Which};
+use rm_script::{MAX_BYTES, MAX_LINES, Which};
+use rm_types::MAX_ROW;
 use std::alloc::{AllocError, Global};
 use std::test::Fail;
 

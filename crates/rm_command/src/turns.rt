@@ -3,11 +3,11 @@
 ghost use Rattle.std.specs.Prelude.{◌≡◌, ℕ, ◌≤◌, ◌^◌, ◌++◌, List, [], Option, IsTrue, OnOk, IfErr, IsErrOf, ◌⊎◌};
 ghost use Rattle.rm_types.specs.declared.areas.Area.{Area as Areas};
 ghost use Rattle.rm_types.specs.declared.areas.Area.TheVariants.{Log as log_area};
-ghost use Rattle.rm_types.specs.declared.lines.Line.{Line as Lines};
+ghost use Rattle.rm_script.specs.declared.lines.Line.{Line as Lines};
 ghost use Rattle.rm_types.specs.declared.numbers.TheConstants.{MAX_LOG};
 ghost use Rattle.rm_outside.specs.Faults.{Rises};
 ghost use Rattle.rm_outside.specs.Moments.{IsDurable};
-ghost use Rattle.rm_model.specs.Texts.{turn_line};
+ghost use Rattle.rm_script.specs.Texts.{turn_line};
 ghost use Rattle.rm_engine.specs.Numbers.{IsReady};
 ghost use Rattle.rm_command.specs.Reading.{IsReadToEnd};
 ghost use Rattle.rm_command.specs.Running.{Moves};
@@ -22,9 +22,9 @@ use crate::writing::{flush, flush_if_long};
 use rm_engine::Engine;
 use rm_outside::{Failed, Sink, Source, Volume};
 use rm_restart::restart;
-use rm_script::{read_turns, turn_text, unfinished_text};
+use rm_script::{Line, read_turns, turn_text, unfinished_text};
 use rm_session::Session;
-use rm_types::{Line, MAX_LOG, Reply, TxnId};
+use rm_types::{MAX_LOG, Reply, TxnId};
 use std::alloc::Global;
 
 /// The number of the one session.

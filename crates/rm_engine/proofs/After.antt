@@ -1,13 +1,14 @@
 -- One step of the run, and what its images have.
 use Rattle.std.proofs.Common.{◌≡◌, ℕ, ◌+◌, List, [], ◌∷◌, ◌++◌, length, refl, sym, ap, subst, ◌∙◌, arith, length-append}
-use Rattle.rm_types.specs.declared.lines.Line.{Line}
-use Rattle.rm_types.specs.declared.lines.Line.TheVariants as line
-use Rattle.rm_types.specs.declared.lines.Target.{Target}
+use Rattle.rm_script.specs.declared.lines.Line.{Line}
+use Rattle.rm_script.specs.declared.lines.Line.TheVariants as line
+use Rattle.rm_script.specs.declared.lines.Target.{Target}
 use Rattle.rm_types.specs.declared.operations.Reply.{Reply}
 use Rattle.rm_types.specs.declared.operations.Reply.TheVariants as reply
 use Rattle.rm_outside.specs.Images.{Image}
 use Rattle.rm_model.specs.Object.{Rows}
-use Rattle.rm_model.specs.Session.{rows_of, Core}
+use Rattle.rm_model.specs.Files.{rows_of}
+use Rattle.rm_session.specs.Session.{Core}
 use Rattle.rm_wal.specs.Tails.{LogValue}
 use Rattle.rm_engine.specs.At.{IsAt, Changes, NotChanged, count_after, committed_after}
 use Rattle.rm_engine.specs.Runs.{begins, acknowledged, put, rows_after, IsAfter}

@@ -3,14 +3,15 @@ use Rattle.std.proofs.Common.{◌≡◌, inl, inr, ℕ, ◌+◌, ◌≤◌, true
 use Rattle.std.proofs.lemmas.Bool.{cases_Bool, cases_lt, true≢false}
 use Rattle.rm_types.specs.declared.numbers.Rid.{Rid}
 use Rattle.rm_types.specs.declared.numbers.TxnId.{TxnId}
-use Rattle.rm_types.specs.declared.lines.Line.{Line}
-use Rattle.rm_types.specs.declared.lines.Line.TheVariants as line
+use Rattle.rm_script.specs.declared.lines.Line.{Line}
+use Rattle.rm_script.specs.declared.lines.Line.TheVariants as line
 use Rattle.rm_types.specs.declared.operations.Reply.{Reply}
 use Rattle.rm_types.specs.declared.operations.Reply.TheVariants as reply
 use Rattle.rm_outside.specs.Images.{Image}
 use Rattle.rm_model.specs.Object.{Rows, with_row}
-use Rattle.rm_model.specs.Session.{rows_of, Core}
-use Rattle.rm_model.proofs.Runs.{rows_of-set_row}
+use Rattle.rm_model.specs.Files.{rows_of}
+use Rattle.rm_session.specs.Session.{Core}
+use Rattle.rm_model.proofs.FileLaws.{rows_of-set_row}
 use Rattle.rm_restart.specs.Sound.{Holds}
 use Rattle.rm_engine.specs.At.{Changes}
 use Rattle.rm_engine.specs.Runs.{begins, acknowledged, put, rows_after, open_of, IsBehind, IsWithin}

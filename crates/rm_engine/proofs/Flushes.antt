@@ -10,7 +10,8 @@ use Rattle.rm_types.specs.declared.numbers.Rid.{Rid}
 use Rattle.rm_types.specs.declared.numbers.TxnId.{TxnId}
 use Rattle.rm_outside.specs.Images.{Bytes, Image}
 use Rattle.rm_model.specs.Object.{Rows}
-use Rattle.rm_model.specs.Session.{rows_of, set_row, IsPlaceFor, Core}
+use Rattle.rm_model.specs.Files.{rows_of, set_row}
+use Rattle.rm_session.specs.Session.{IsPlaceFor, Core}
 use Rattle.rm_record.specs.declared.records.LogRecord.{LogRecord}
 use Rattle.rm_record.specs.declared.records.LogRecord.TheVariants.{Insert, Commit}
 use Rattle.rm_record.specs.Records.{spelling, spelling_all, IsRecord}

@@ -4,7 +4,7 @@ use Rattle.std.proofs.lemmas.Bool.{cases_Bool}
 use Rattle.rm_outside.specs.Images.{Image}
 use Rattle.rm_outside.specs.Moments.{LeavesOnly}
 use Rattle.rm_model.specs.Object.{Rows}
-use Rattle.rm_model.specs.Session.{Core}
+use Rattle.rm_session.specs.Session.{Core}
 use Rattle.rm_record.specs.Records.{spelling_all}
 use Rattle.rm_wal.specs.Tails.{LogValue}
 use Rattle.rm_engine.specs.At.{IsAt}

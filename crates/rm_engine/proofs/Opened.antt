@@ -6,7 +6,7 @@ use Rattle.rm_types.specs.declared.numbers.Rid.{Rid}
 use Rattle.rm_types.specs.declared.slots.Slot.{Slot}
 use Rattle.rm_outside.specs.Images.{Image}
 use Rattle.rm_model.specs.Pages.{row_at, set_slot}
-use Rattle.rm_model.specs.Session.{page_at, rows_of}
+use Rattle.rm_model.specs.Files.{page_at, rows_of}
 use Rattle.rm_history.specs.Acts.{Change, History, changes, undoes, enters, commits, ends, lists}
 use Rattle.rm_history.specs.Contents.{page_of}
 use Rattle.rm_history.specs.Pending.{pending_of}

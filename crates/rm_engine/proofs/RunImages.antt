@@ -1,14 +1,15 @@
 -- What the images of a run have.
 use Rattle.std.proofs.Common.{◌≡◌, inl, inr, ℕ, ◌+◌, true, false, List, [], ◌∷◌, ◌++◌, refl, sym, ap, subst, ◌∙◌, arith}
 use Rattle.std.proofs.lemmas.Bool.{true≢false}
-use Rattle.rm_types.specs.declared.lines.Line.{Line}
-use Rattle.rm_types.specs.declared.lines.Line.TheVariants as line
+use Rattle.rm_script.specs.declared.lines.Line.{Line}
+use Rattle.rm_script.specs.declared.lines.Line.TheVariants as line
 use Rattle.rm_types.specs.declared.operations.Op.TheVariants as op
 use Rattle.rm_types.specs.declared.operations.Reply.{Reply}
 use Rattle.rm_types.specs.declared.operations.Reply.TheVariants as reply
 use Rattle.rm_outside.specs.Images.{Image}
 use Rattle.rm_model.specs.Object.{Rows}
-use Rattle.rm_model.specs.Session.{rows_of, Core, State, Step, Comes}
+use Rattle.rm_model.specs.Files.{rows_of}
+use Rattle.rm_session.specs.Session.{Core, State, Step, Comes}
 use Rattle.rm_wal.specs.Tails.{LogValue}
 use Rattle.rm_restart.specs.Sound.{Holds}
 use Rattle.rm_engine.specs.At.{IsAt, IsCommitOf, LeftByTurn}

@@ -4,13 +4,13 @@ use Rattle.std.proofs.lemmas.Bool.{true≢false}
 use Rattle.rm_types.specs.declared.numbers.Rid.{Rid}
 use Rattle.rm_types.specs.declared.numbers.TxnId.{TxnId}
 use Rattle.rm_types.specs.declared.slots.Slot.TheVariants.{Row}
-use Rattle.rm_types.specs.declared.lines.Line.{Line}
-use Rattle.rm_types.specs.declared.lines.Line.TheVariants as line
-use Rattle.rm_types.specs.declared.lines.Target.TheVariants as target
+use Rattle.rm_script.specs.declared.lines.Line.{Line}
+use Rattle.rm_script.specs.declared.lines.Line.TheVariants as line
+use Rattle.rm_script.specs.declared.lines.Target.TheVariants as target
 use Rattle.rm_types.specs.declared.operations.Reply.{Reply}
 use Rattle.rm_types.specs.declared.operations.Reply.TheVariants as reply
 use Rattle.rm_model.specs.Object.{Rows}
-use Rattle.rm_model.specs.Session.{IsPlaceFor, Core}
+use Rattle.rm_session.specs.Session.{IsPlaceFor, Core}
 use Rattle.rm_engine.specs.At.{count_after, committed_after, IsCommitOf, Changes}
 use Rattle.rm_engine.specs.Numbers.{LacksIds}
 use Rattle.rm_engine.specs.Runs.{begins, acknowledged, put, left_to_begin, rows_after}

@@ -11,9 +11,10 @@ use Rattle.rm_types.specs.declared.slots.Slot.TheVariants.{Vacant, Row}
 use Rattle.rm_types.specs.declared.slots.TheConstants.{CAPACITY, SLOT_ENTRY}
 use Rattle.rm_model.specs.Pages.{used, set_slot}
 use Rattle.rm_model.specs.Object.{Rows, with_row}
-use Rattle.rm_model.specs.Session.{page_at, rows_of, set_row, IsPlaceFor, Core}
+use Rattle.rm_model.specs.Files.{page_at, rows_of, set_row}
+use Rattle.rm_session.specs.Session.{IsPlaceFor, Core}
 use Rattle.rm_model.proofs.Slots.{used-set_slot_end}
-use Rattle.rm_model.proofs.Runs.{rows_of-set_row}
+use Rattle.rm_model.proofs.FileLaws.{rows_of-set_row}
 use Rattle.rm_record.specs.declared.records.LogRecord.TheVariants.{Insert, Commit}
 use Rattle.rm_history.specs.Acts.{Change, History, changes, undoes, enters, commits, ends, lists, act_at, newest_lsn}
 use Rattle.rm_history.specs.Contents.{page_of}

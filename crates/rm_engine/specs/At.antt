@@ -2,13 +2,14 @@
 use Rattle.std.specs.Prelude.{◌≡◌, ℕ, ◌+◌, ◌-◌, ◌<◌, true, false, List, [], length, ◌⊎◌}
 use Rattle.std.specs.List.{AllByRecursion}
 use Rattle.rm_types.specs.declared.slots.Slot.{Slot}
-use Rattle.rm_types.specs.declared.lines.Line.{Line}
-use Rattle.rm_types.specs.declared.lines.Line.TheVariants as line
+use Rattle.rm_script.specs.declared.lines.Line.{Line}
+use Rattle.rm_script.specs.declared.lines.Line.TheVariants as line
 use Rattle.rm_types.specs.declared.operations.Reply.{Reply}
 use Rattle.rm_types.specs.declared.operations.Reply.TheVariants as reply
 use Rattle.rm_outside.specs.Images.{Image}
 use Rattle.rm_model.specs.Object.{Rows}
-use Rattle.rm_model.specs.Session.{page_at, rows_of, set_row, IsPlaceFor, Core}
+use Rattle.rm_model.specs.Files.{page_at, rows_of, set_row}
+use Rattle.rm_session.specs.Session.{IsPlaceFor, Core}
 use Rattle.rm_record.specs.Records.{spelling_all, IsRecord}
 use Rattle.rm_wal.specs.Tails.{LogValue}
 use Rattle.rm_history.specs.declared.TheConstants.{BATCH_HEADER}

@@ -3,14 +3,14 @@ use Rattle.std.specs.Prelude.{◌≡◌, ℕ, ◌++◌, ◌+◌, ◌-◌, ◌*�
 use Rattle.rm_types.specs.declared.numbers.TxnId.{TxnId}
 use Rattle.rm_types.specs.declared.numbers.TheConstants.{MAX_PAGES, MAX_LOG, MAX_SLOT}
 use Rattle.rm_types.specs.declared.numbers.Rid.{Rid}
-use Rattle.rm_types.specs.declared.lines.Line.{Line}
-use Rattle.rm_types.specs.declared.lines.Line.TheVariants as line
+use Rattle.rm_script.specs.declared.lines.Line.{Line}
+use Rattle.rm_script.specs.declared.lines.Line.TheVariants as line
 use Rattle.rm_history.specs.declared.TheConstants.{BATCH_HEADER}
 use Rattle.rm_record.specs.declared.records.LogRecord.{LogRecord}
 use Rattle.rm_record.specs.Records.{spelling}
 use Rattle.rm_wal.specs.declared.log.TheConstants.{LONG_TAIL}
 use Rattle.rm_wal.specs.Tails.{LogValue, end_of}
-use Rattle.rm_model.specs.Session.{IsFirstWithRoom, Core}
+use Rattle.rm_session.specs.Session.{IsFirstWithRoom, Core}
 use Rattle.rm_types.specs.declared.operations.Reply.{Reply}
 use Rattle.rm_types.specs.declared.operations.Reply.TheVariants as reply
 use Rattle.rm_engine.specs.declared.room.TheConstants.{OWED, CHANGE_COST, INSERT_SIZE, COMMIT_SIZE}

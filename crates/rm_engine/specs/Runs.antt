@@ -1,13 +1,14 @@
 -- A run over a log, and the rows that its transactions leave, in the order of their begins.
 use Rattle.std.specs.Prelude.{◌≡◌, ℕ, zero, suc, ◌+◌, ◌≤◌, List, [], ◌∷◌, length, Bool, true, false, Option, Some, None}
 use Rattle.std.specs.Option.{option_map_or}
-use Rattle.rm_types.specs.declared.lines.Line.{Line}
-use Rattle.rm_types.specs.declared.lines.Line.TheVariants as line
+use Rattle.rm_script.specs.declared.lines.Line.{Line}
+use Rattle.rm_script.specs.declared.lines.Line.TheVariants as line
 use Rattle.rm_types.specs.declared.operations.Reply.{Reply}
 use Rattle.rm_types.specs.declared.operations.Reply.TheVariants as reply
 use Rattle.rm_outside.specs.Images.{Image}
 use Rattle.rm_model.specs.Object.{Rows, with_row}
-use Rattle.rm_model.specs.Session.{rows_of, Core, State, Step}
+use Rattle.rm_model.specs.Files.{rows_of}
+use Rattle.rm_session.specs.Session.{Core, State, Step}
 use Rattle.rm_wal.specs.Tails.{LogValue}
 use Rattle.rm_restart.specs.Sound.{Holds}
 use Rattle.rm_engine.specs.Numbers.{Used, used_after, LacksRoom}

@@ -13,7 +13,8 @@ use rm_history::BATCH_HEADER;
 use rm_master::Master;
 use rm_memory::MemVolume;
 use rm_restart::restart;
-use rm_types::{Line, MAX_LOG, MAX_PAGES, MAX_ROW, Name, Reply, Row};
+use rm_script::{Line, Name};
+use rm_types::{MAX_LOG, MAX_PAGES, MAX_ROW, Reply, Row};
 use std::alloc::Global;
 use std::test::Fail;
 

@@ -11,7 +11,7 @@ of_txn-newest last rest = rw (eq-eqb last.txn last.txn refl)
 -- ---- without a transaction's newest change, or without all of its changes
 
 -- without its newest it has the older ones
-of_txn-without_newest : (txn : ℕ) (all : List Change) → of_txn txn (without_newest all txn) ≡ older (of_txn txn all)
+pub of_txn-without_newest : (txn : ℕ) (all : List Change) → of_txn txn (without_newest all txn) ≡ older (of_txn txn all)
 of_txn-without_newest txn [] = refl
 of_txn-without_newest txn (newest ∷ before) = elim (cases_eq newest.txn txn) [
   | inl same ↦ rw (eq-eqb newest.txn txn same)
@@ -19,7 +19,7 @@ of_txn-without_newest txn (newest ∷ before) = elim (cases_eq newest.txn txn) [
 ]
 
 -- without the newest of another it has all of its own
-of_txn-without_newest_other : (txn other : ℕ) (all : List Change) → (other ≡ txn → ⊥) → of_txn txn (without_newest all other) ≡ of_txn txn all
+pub of_txn-without_newest_other : (txn other : ℕ) (all : List Change) → (other ≡ txn → ⊥) → of_txn txn (without_newest all other) ≡ of_txn txn all
 of_txn-without_newest_other txn other [] differs = refl
 of_txn-without_newest_other txn other (newest ∷ before) differs = elim (cases_eq newest.txn other) [
   | inl same ↦ rw (eq-eqb newest.txn other same, ne_eqb newest.txn txn (λ is. differs (sym same ∙ is)))
@@ -28,7 +28,7 @@ of_txn-without_newest_other txn other (newest ∷ before) differs = elim (cases_
 ]
 
 -- without its changes it has none
-of_txn-without : (txn : ℕ) (all : List Change) → of_txn txn (without all txn) ≡ []
+pub of_txn-without : (txn : ℕ) (all : List Change) → of_txn txn (without all txn) ≡ []
 of_txn-without txn [] = refl
 of_txn-without txn (newest ∷ before) = elim (cases_eq newest.txn txn) [
   | inl same ↦ rw (eq-eqb newest.txn txn same) (of_txn-without txn before)
@@ -36,7 +36,7 @@ of_txn-without txn (newest ∷ before) = elim (cases_eq newest.txn txn) [
 ]
 
 -- without those of another it has all of its own
-of_txn-without_other : (txn other : ℕ) (all : List Change) → (other ≡ txn → ⊥) → of_txn txn (without all other) ≡ of_txn txn all
+pub of_txn-without_other : (txn other : ℕ) (all : List Change) → (other ≡ txn → ⊥) → of_txn txn (without all other) ≡ of_txn txn all
 of_txn-without_other txn other [] differs = refl
 of_txn-without_other txn other (newest ∷ before) differs = elim (cases_eq newest.txn other) [
   | inl same ↦ rw (eq-eqb newest.txn other same, ne_eqb newest.txn txn (λ is. differs (sym same ∙ is))) (of_txn-without_other txn other before differs)
@@ -46,7 +46,7 @@ of_txn-without_other txn other (newest ∷ before) differs = elim (cases_eq newe
 
 -- ---- what a transaction has pending
 
--- behind an undo
+-- after an undo
 pending_of_undone : (txn : ℕ) (u : Undo) (mine all : List Change) → mine ≡ of_txn txn all
     → cond (eqb u.txn txn) (older mine) mine ≡ of_txn txn (without_newest all u.txn)
 pending_of_undone txn u mine all is = elim (cases_eq u.txn txn) [
@@ -54,7 +54,7 @@ pending_of_undone txn u mine all is = elim (cases_eq u.txn txn) [
   | inr other ↦ rw (ne_eqb u.txn txn other) (is ∙ sym (of_txn-without_newest_other txn u.txn all other))
 ]
 
--- behind a commit or an end
+-- after a commit or an end
 pending_of_finished : (txn : ℕ) (f : Finish) (mine all : List Change) → mine ≡ of_txn txn all → cond (eqb f.txn txn) [] mine ≡ of_txn txn (without all f.txn)
 pending_of_finished txn f mine all is = elim (cases_eq f.txn txn) [
   | inl same ↦ rw (eq-eqb f.txn txn same, same) (sym (of_txn-without txn all))

@@ -18,6 +18,7 @@ pub mod ChangeLsns
 pub mod NetLaws
 pub mod WinnerLaws
 pub mod NeedSums
+pub mod Following
 pub mod NeedChains
 pub mod RoomLaws
 pub mod UndoTheorem

@@ -1,22 +1,20 @@
 -- A rollback of an unfinished transaction, partial or whole, is legal, and leaves the committed rows as they are.
-use Rattle.std.proofs.Common.{◌≡◌, ◌⊎◌, inl, inr, ℕ, List, [], ◌∷◌, ◌++◌, refl, sym, ap, subst, ◌∙◌, arith}
+use Rattle.std.proofs.Common.{◌≡◌, ◌⊎◌, inl, inr, ℕ, List, [], ◌∷◌, ◌++◌, refl, sym, subst, ◌∙◌}
 use Rattle.std.proofs.lemmas.List.{append-nil}
 use Rattle.rm_types.specs.declared.formats.Format.{Format}
-use Rattle.rm_model.specs.Pages.{used}
-use Rattle.rm_history.specs.Acts.{Change, Finish, History, commits, ends}
+use Rattle.rm_history.specs.Acts.{Change, Finish, History}
 use Rattle.rm_history.specs.Contents.{page_of}
 use Rattle.rm_history.specs.Pending.{pending_of}
 use Rattle.rm_history.specs.Transactions.{IsFinished, HasRecord}
 use Rattle.rm_history.specs.Rows.{rows_of_log}
-use Rattle.rm_history.specs.Needs.{on_page, need_for, need_of, Fits}
 use Rattle.rm_history.specs.Rules.{MayEnd}
-use Rattle.rm_history.specs.Legal.{EntriesFollow, IsLegal}
+use Rattle.rm_history.specs.Legal.{IsLegal}
 use Rattle.rm_history.specs.Undoing.{AllUndone, Ended}
 use Rattle.rm_history.specs.UndoLaws.{IsUndone, RollbacksAreLegal, PartialRollbacksAreLegal}
 use Rattle.rm_history.proofs.Prefixes.{legal_is_in_order}
 use Rattle.rm_history.proofs.ChainSteps.{pending-ended}
-use Rattle.rm_history.proofs.PendingSteps.{pending-commit, pending-commit_other}
-use Rattle.rm_history.proofs.NeedSums.{room_kept}
+use Rattle.rm_history.proofs.NeedSums.{finish_fits}
+use Rattle.rm_history.proofs.Following.{entries_follow_end}
 use Rattle.rm_history.proofs.UndoTheorem.{fits_in_order, entries_follow, no_undo_lacks_room}
 
 -- ---- a transaction's newest changes are undone
@@ -43,24 +41,7 @@ pub partial_rollbacks_are_legal : PartialRollbacksAreLegal
 partial_rollbacks_are_legal start before new txn rest legal unfinished back =
     newest_undone start before new txn back.newest rest legal unfinished back.cut back.undoes_newest
 
--- ---- a transaction is finished
-
--- each page still fits after a commit, and so after an end: nothing of its transaction is pending then
-pub finish_fits : (before : History) (f : Finish) → Fits before → Fits (commits f ∷ before)
-finish_fits before f fits page =
-    let none : need_of (commits f ∷ before) f.txn page ≡ 0 = ap (λ (all : List Change). need_for (on_page page all)) (pending-commit f before) in
-    room_kept (λ txn. need_of before txn page) (λ txn. need_of (commits f ∷ before) txn page) f.txn (used (page_of before page)) (used (page_of before page))
-    (λ txn other. ap (λ (all : List Change). need_for (on_page page all)) (pending-commit_other f before txn (λ same. other (sym same))))
-    (omega (arith, none)) (fits page)
-
 -- ---- a transaction ends that has nothing pending
-
--- the inventory follows
-entries_follow_end : (format : Format) (before : History) (f : Finish) → MayEnd before f → EntriesFollow format before → EntriesFollow format (ends f ∷ before)
-entries_follow_end format before f may follow page = elim (follow page) [
-  | inl right ↦ inl right
-  | inr pending ↦ inr (pending.0, λ empty. pending.1 (ap (on_page page) (sym (pending-ended f before pending.0 may)) ∙ empty))
-]
 
 -- the history in which a transaction has ended
 pub record HasEnded (format : Format) (before : History) (txn : ℕ) (new : History) : Type 0 where

@@ -11,10 +11,10 @@ use Rattle.rm_history.specs.Acts.{Change, History, changes, undoes, enters, comm
 use Rattle.rm_history.specs.Contents.{slot_at, page_of}
 use Rattle.rm_history.specs.Pending.{older, pending_of}
 use Rattle.rm_history.specs.Transactions.{greatest_txn}
-use Rattle.rm_history.specs.Needs.{on_page, need_for, need_of, sum_below, Fits}
+use Rattle.rm_history.specs.Needs.{on_page, need_for, need_of, sum_below, FitsOn, Fits}
 use Rattle.rm_history.specs.Room.{others_need, growth_for}
 use Rattle.rm_history.specs.RoomLaws.{FittingIsRoom}
-use Rattle.rm_history.proofs.NeedSums.{sum_below-same, sum_below-one, sum_below-more, used-inside, need_of-change, need_of-change_elsewhere, need_of-change_other}
+use Rattle.rm_history.proofs.NeedSums.{sum_below-same, sum_below-one, sum_below-more, used-inside, need_of-change, need_of-change_other, pending_on-change, fits_as_before}
 use Rattle.rm_history.proofs.PendingSteps.{if_different}
 
 -- ---- sums over all numbers but one
@@ -109,22 +109,16 @@ need_with before c = need_of (changes c ∷ before) c.txn c.rid.page
 others_as_before : (before : History) (c : Change) (page k : ℕ) → (k ≡ c.txn → ⊥) → need_of (changes c ∷ before) k page ≡ need_of before k page
 others_as_before before c page k other = need_of-change_other before c k page (λ same. other (sym same))
 
--- each other page needs what it needed
-all_elsewhere : (before : History) (c : Change) (page k : ℕ) → (c.rid.page ≡ page → ⊥) → need_of (changes c ∷ before) k page ≡ need_of before k page
-all_elsewhere before c page k other = elim (cases_eq k c.txn) [
-  | inl mine ↦ subst (λ (t : ℕ). need_of (changes c ∷ before) t page ≡ need_of before t page) (sym mine) (need_of-change_elsewhere before c page other)
-  | inr differs ↦ others_as_before before c page k differs
-]
-
 -- so each page has room with the change where its own has,
 pages_fit : (before : History) (c : Change) → Fits before → bytes_with before c + others_need before c.txn c.rid.page + need_with before c ≤ CAPACITY → Fits (changes c ∷ before)
-pages_fit before c fits room page n = elim (cases_eq c.rid.page page) [
-  | inl here ↦ subst (λ (p : ℕ). used (page_of (changes c ∷ before) p) + sum_below (λ txn. need_of (changes c ∷ before) txn p) n ≤ CAPACITY) here
+pages_fit before c fits room page = elim (cases_eq c.rid.page page) [
+  | inl here ↦ subst (FitsOn (changes c ∷ before)) here
       (rw (eq-eqb c.rid.page c.rid.page refl)
       (all_fit (λ k. need_of before k c.rid.page) (λ k. need_of (changes c ∷ before) k c.rid.page) c.txn (greatest_txn before + 1) (bytes_with before c)
-      (others_as_before before c c.rid.page) (need_past before c.rid.page) room n))
-  | inr other ↦ rw (ne_eqb c.rid.page page other)
-      (omega (arith, fits page n, sum_below-same (λ k. need_of before k page) (λ k. need_of (changes c ∷ before) k page) n (λ k under. all_elsewhere before c page k other)))
+      (others_as_before before c c.rid.page) (need_past before c.rid.page) room))
+  | inr other ↦
+      let holds : page_of (changes c ∷ before) page ≡ page_of before page = rw (ne_eqb c.rid.page page other) refl in
+      fits_as_before before (changes c ∷ before) page holds (λ txn. pending_on-change c before txn page other) (fits page)
 ]
 
 -- and its own has where each has
@@ -133,7 +127,7 @@ page_fits before c fits =
     others_fit (λ k. need_of before k c.rid.page) (λ k. need_of (changes c ∷ before) k c.rid.page) c.txn (greatest_txn before + 1) (bytes_with before c)
     (others_as_before before c c.rid.page) (λ n. rw (eq-eqb c.rid.page c.rid.page refl) at (fits c.rid.page n))
 
--- ---- what is in use behind a change
+-- ---- what is in use after a change
 
 -- a slot that holds a row is inside of its directory
 inside_where_row : (slots : List Slot) (number : ℕ) (row : List ℕ) → slot_at slots number ≡ Row row → number < length slots

@@ -4,17 +4,18 @@ use Rattle.std.proofs.lemmas.Bool.{cases_eq, eq-eqb, ne_eqb}
 use Rattle.rm_types.specs.declared.formats.Format.{Format}
 use Rattle.rm_types.specs.declared.formats.Format.TheVariants.{One}
 use Rattle.rm_model.specs.Pages.{used, row_length, set_slot}
-use Rattle.rm_history.specs.Acts.{Change, Undo, History, undoes, enters, newest_lsn}
-use Rattle.rm_history.specs.Contents.{slot_at, page_of, category_of, entry_of}
+use Rattle.rm_history.specs.Acts.{Change, Undo, Entry, History, undoes, newest_lsn}
+use Rattle.rm_history.specs.Contents.{slot_at, page_of, entry_of}
 use Rattle.rm_history.specs.Pending.{pending_of}
 use Rattle.rm_history.specs.Transactions.{IsFinished}
 use Rattle.rm_history.specs.Rows.{rows_of_log}
-use Rattle.rm_history.specs.Needs.{on_page, need_of, sum_below, Fits}
-use Rattle.rm_history.specs.Rules.{MayUndo, Follows, IsInOrder}
-use Rattle.rm_history.specs.Legal.{IsKept, IsPendingOn, EntriesFollow, IsLegal}
+use Rattle.rm_history.specs.Needs.{need_of, sum_below, Fits}
+use Rattle.rm_history.specs.Rules.{MayUndo, MayEnter, Follows, IsInOrder}
+use Rattle.rm_history.specs.Legal.{EntriesFollow, IsLegal}
 use Rattle.rm_history.specs.Undoing.{category_after, entry_for, undo_for, Settles, Undone}
 use Rattle.rm_history.specs.UndoLaws.{IsUndone, UndoesAreInOrder, NoUndoLacksRoom}
-use Rattle.rm_history.proofs.NeedSums.{room_kept, used-inside, on_page-here, on_page-elsewhere, pending_of-undo, need_of-undo, need_of-undo_elsewhere, need_of-undo_other}
+use Rattle.rm_history.proofs.NeedSums.{room_kept, used-inside, pending_of-undo, pending_on-undo, need_of-undo, need_of-undo_other, fits_as_before}
+use Rattle.rm_history.proofs.Following.{entries_follow_undo, entries_follow_entry}
 use Rattle.rm_history.proofs.Prefixes.{legal_is_in_order}
 use Rattle.rm_history.proofs.PendingSteps.{pending-undo_other}
 use Rattle.rm_history.proofs.Chains.{last_is_of, last_is_inside, last_is_held}
@@ -36,22 +37,7 @@ pub entries_follow : (format : Format) (history : History) → IsLegal format hi
 entries_follow One [] legal = λ page. inl refl
 entries_follow format (act ∷ before) legal = legal.2.follow
 
--- what a transaction has pending is pending on its page
-is_pending_on : (history : History) (txn : ℕ) (last : Change) (rest : List Change) → pending_of history txn ≡ last ∷ rest → IsPendingOn history last.rid.page
-is_pending_on history txn last rest is =
-    let one : on_page last.rid.page (pending_of history txn) ≡ last ∷ on_page last.rid.page rest =
-    ap (on_page last.rid.page) is ∙ on_page-here last.rid.page last rest refl in
-    (txn, λ none. cc)
-
 -- ---- the page's entry
-
--- behind an entry of its page's category the entries of the other pages are as before
-entries_follow_entry : (format : Format) (before : History) (last : Change) (rest : List Change) (lsn : ℕ) → pending_of before last.txn ≡ last ∷ rest → EntriesFollow format before
-    → EntriesFollow format (enters (entry_for format lsn before last) ∷ before)
-entries_follow_entry format before last rest lsn is follow page = elim (cases_eq last.rid.page page) [
-  | inl here ↦ inr (subst (λ (p : ℕ). IsPendingOn before p) here (is_pending_on before last.txn last rest is))
-  | inr other ↦ rw (ne_eqb last.rid.page page other) (follow page)
-]
 
 -- the history in which the page of the change has the entry that undoing the change wants
 record HasEntry (format : Format) (before : History) (last : Change) (new : History) : Type 0 where
@@ -61,37 +47,24 @@ record HasEntry (format : Format) (before : History) (last : Change) (new : Hist
   rows : rows_of_log new ≡ rows_of_log before
   entered : entry_of new last.rid.page ≡ category_after format new last
 
--- the record that enters it may come,
-entry_comes : (format : Format) (before : History) (last : Change) (rest : List Change) (lsn : ℕ) → IsInOrder before → (IsFinished before last.txn → ⊥) → pending_of before last.txn ≡ last ∷ rest
-    → newest_lsn before < lsn → Follows before (enters (entry_for format lsn before last))
-entry_comes format before last rest lsn ordered unfinished is above = record {
-  above = above;
-  may_come = record { unfinished = unfinished; last = last; is_last = (rest, is); page_is = refl };
-  fits = fits_in_order before ordered;
-}
-
--- and keeps the inventory
-entry_kept : (format : Format) (before : History) (last : Change) (rest : List Change) (lsn : ℕ) → EntriesFollow format before → pending_of before last.txn ≡ last ∷ rest
-    → (entry_of before last.rid.page ≡ category_after format before last → ⊥) → IsKept format before (enters (entry_for format lsn before last))
-entry_kept format before last rest lsn follow is wrong = record {
-  entered = record { differs = λ same. wrong (sym same); right = inr (last, (rest, is), refl) };
-  follow = entries_follow_entry format before last rest lsn is follow;
-}
-
--- so settling gives that history
+-- so settling gives that history: the record that enters it may come, and keeps the inventory
 entered_by : (format : Format) (before settled : History) (last : Change) (rest : List Change) → IsLegal format before → (IsFinished before last.txn → ⊥) → pending_of before last.txn ≡ last ∷ rest
     → Settles format before last settled → HasEntry format before last settled
 entered_by format before settled last rest legal unfinished is (inl stays) =
     subst (λ (h : History). HasEntry format before last h) (sym stays.1)
     (record { legal = legal; pending = λ txn. refl; finished = λ txn f. f; rows = refl; entered = stays.0 })
 entered_by format before settled last rest legal unfinished is (inr differs) =
-    let lsn : ℕ = differs.1.0 in
+    let e : Entry = entry_for format differs.1.0 before last in
+    let may : MayEnter before e = record { unfinished = unfinished; last = last; is_last = (rest, is); page_is = refl } in
     subst (λ (h : History). HasEntry format before last h) (sym differs.1.2)
     (record {
       legal = (
         legal,
-        entry_comes format before last rest lsn (legal_is_in_order format before legal) unfinished is differs.1.1,
-        entry_kept format before last rest lsn (entries_follow format before legal) is differs.0,
+        record { above = differs.1.1; may_come = may; fits = fits_in_order before (legal_is_in_order format before legal) },
+        record {
+          entered = record { differs = λ same. differs.0 (sym same); right = inr (last, (rest, is), refl) };
+          follow = entries_follow_entry format before e may (entries_follow format before legal);
+        },
       );
       pending = λ txn. refl;
       finished = λ txn f. f;
@@ -119,42 +92,17 @@ room_for_undo before last rest lsn page is stands here =
 -- so with the compensation each page fits
 undo_fits : (before : History) (last : Change) (rest : List Change) (lsn : ℕ) → pending_of before last.txn ≡ last ∷ rest → Stands before last → Fits before
     → Fits (undoes (undo_for lsn last) ∷ before)
-undo_fits before last rest lsn is stands fits page n =
+undo_fits before last rest lsn is stands fits page =
     let u : Undo = undo_for lsn last in
-    let others : (k : ℕ) → (k ≡ last.txn → ⊥) → need_of (undoes u ∷ before) k page ≡ need_of before k page =
-    λ k other. need_of-undo_other before u k page (λ same. other (sym same)) in
     elim (cases_eq last.rid.page page) [
       | inl here ↦ rw (eq-eqb last.rid.page page here)
-          (room_kept (λ k. need_of before k page) (λ k. need_of (undoes u ∷ before) k page) last.txn (used (page_of before page)) (used (set_slot (page_of before page) last.rid.slot last.before))
-          others (room_for_undo before last rest lsn page is stands here) (fits page) n)
-      | inr other ↦ rw (ne_eqb last.rid.page page other)
-          (room_kept (λ k. need_of before k page) (λ k. need_of (undoes u ∷ before) k page) last.txn (used (page_of before page)) (used (page_of before page))
-          others (omega (arith, need_of-undo_elsewhere before u last rest page is other)) (fits page) n)
+          (room_kept (λ k. need_of before k page) (λ k. need_of (undoes u ∷ before) k page) last.txn
+          (used (page_of before page)) (used (set_slot (page_of before page) last.rid.slot last.before))
+          (λ k other. need_of-undo_other before u k page (λ same. other (sym same))) (room_for_undo before last rest lsn page is stands here) (fits page))
+      | inr other ↦
+          let holds : page_of (undoes u ∷ before) page ≡ page_of before page = rw (ne_eqb last.rid.page page other) refl in
+          fits_as_before before (undoes u ∷ before) page holds (λ txn. pending_on-undo u before last rest txn page is other) (fits page)
     ]
-
--- what is pending on another page is so behind the compensation
-still_pending : (before : History) (last : Change) (rest : List Change) (lsn page : ℕ) → pending_of before last.txn ≡ last ∷ rest → (last.rid.page ≡ page → ⊥)
-    → IsPendingOn before page → IsPendingOn (undoes (undo_for lsn last) ∷ before) page
-still_pending before last rest lsn page is other pending =
-    let u : Undo = undo_for lsn last in
-    let same : on_page page (pending_of (undoes u ∷ before) pending.0) ≡ on_page page (pending_of before pending.0) = elim (cases_eq last.txn pending.0) [
-      | inl mine ↦ subst (λ (t : ℕ). on_page page (pending_of (undoes u ∷ before) t) ≡ on_page page (pending_of before t)) mine
-          (ap (on_page page) (pending_of-undo before u last rest is) ∙ sym (on_page-elsewhere page last rest other) ∙ ap (on_page page) (sym is))
-      | inr others ↦ ap (on_page page) (pending-undo_other u before pending.0 others)
-    ] in
-    (pending.0, λ none. pending.1 (sym same ∙ none))
-
--- behind the compensation its page's entry is right, and all others follow as before
-entries_follow_undo : (format : Format) (before : History) (last : Change) (rest : List Change) (lsn : ℕ) → pending_of before last.txn ≡ last ∷ rest
-    → entry_of before last.rid.page ≡ category_after format before last → EntriesFollow format before → EntriesFollow format (undoes (undo_for lsn last) ∷ before)
-entries_follow_undo format before last rest lsn is entered follow page = elim (cases_eq last.rid.page page) [
-  | inl here ↦ inl (rw (eq-eqb last.rid.page page here)
-      (subst (λ (p : ℕ). entry_of before p ≡ category_of format (set_slot (page_of before p) last.rid.slot last.before)) here entered))
-  | inr other ↦ elim (follow page) [
-    | inl right ↦ inl (rw (ne_eqb last.rid.page page other) right)
-    | inr pending ↦ inr (still_pending before last rest lsn page is other pending)
-  ]
-]
 
 -- the compensation may come
 compensation_comes : (before : History) (last : Change) (rest : List Change) (lsn : ℕ) → (IsFinished before last.txn → ⊥) → pending_of before last.txn ≡ last ∷ rest
@@ -175,7 +123,7 @@ compensation_comes before last rest lsn unfinished is = record {
 newest_stands : (history : History) → IsInOrder history → (txn : ℕ) (last : Change) (rest : List Change) → pending_of history txn ≡ last ∷ rest → Stands history last
 newest_stands history ordered txn last rest is = record { inside = last_is_inside history txn last rest is; holds = last_is_held history ordered txn last rest is }
 
--- so its compensation may stand behind the history
+-- so its compensation may come after the history
 undo_follows : (before : History) (last : Change) (rest : List Change) (lsn : ℕ) → IsInOrder before → (IsFinished before last.txn → ⊥) → pending_of before last.txn ≡ last ∷ rest
     → newest_lsn before < lsn → Follows before (undoes (undo_for lsn last))
 undo_follows before last rest lsn ordered unfinished is above = record {
@@ -192,7 +140,10 @@ undone_by format before last rest lsn legal unfinished is entered above = record
   legal = (
     legal,
     undo_follows before last rest lsn (legal_is_in_order format before legal) unfinished is above,
-    record { entered = entered; follow = entries_follow_undo format before last rest lsn is entered (entries_follow format before legal) },
+    record {
+      entered = entered;
+      follow = entries_follow_undo format before (undo_for lsn last) (compensation_comes before last rest lsn unfinished is) entered (entries_follow format before legal);
+    },
   );
   pending = pending_of-undo before (undo_for lsn last) last rest is;
   others = λ other differs. pending-undo_other (undo_for lsn last) before other (λ same. differs (sym same));

@@ -33,10 +33,12 @@ IsEntered start before (marks m) = Unit {0}
 abbrev pub IsPendingOn : History → ℕ → Type 0
 IsPendingOn history page = (txn : ℕ) × (on_page page (pending_of history txn) ≡ [] → ⊥)
 
--- each page whose entry is not its category has a pending change
+-- a page's entry is its category, or it has a pending change
+abbrev pub FollowsOn : Format → History → ℕ → Type 0
+FollowsOn start history page = (entry_of history page ≡ category_of (format_after start history) (page_of history page)) ⊎ IsPendingOn history page
+
 abbrev pub EntriesFollow : Format → History → Type 0
-EntriesFollow start history =
-    (page : ℕ) → (entry_of history page ≡ category_of (format_after start history) (page_of history page)) ⊎ IsPendingOn history page
+EntriesFollow start history = (page : ℕ) → FollowsOn start history page
 
 -- the record meets what it asks of the inventory, and after it the entries follow
 pub record IsKept (start : Format) (before : History) (act : Act) : Type 0 where

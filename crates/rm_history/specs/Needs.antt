@@ -26,6 +26,9 @@ abbrev pub sum_below : (ℕ → ℕ) → ℕ → ℕ
 sum_below f zero = 0
 sum_below f (suc n) = f n + sum_below f n
 
--- Each page has room for what it holds and for what all transactions' undo needs there.
+-- A page has room for what it holds and for what all transactions' undo needs there.
+abbrev pub FitsOn : History → ℕ → Type 0
+FitsOn history page = (n : ℕ) → used (page_of history page) + sum_below (λ txn. need_of history txn page) n ≤ CAPACITY
+
 abbrev pub Fits : History → Type 0
-Fits history = (page n : ℕ) → used (page_of history page) + sum_below (λ txn. need_of history txn page) n ≤ CAPACITY
+Fits history = (page : ℕ) → FitsOn history page

@@ -1,11 +1,2 @@
 pub mod Slots
-pub mod Runs
-pub mod RunExamples
-pub mod Cuts
-pub mod LinesOf
-pub mod Readings
-pub mod Turns
-pub mod WrongTurns
-pub mod GrammarExamples
-pub mod TextLines
-pub mod TextExamples
+pub mod FileLaws

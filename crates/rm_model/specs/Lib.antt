@@ -1,6 +1,4 @@
 pub mod Pages
 pub mod Object
-pub mod Session
-pub mod Grammar
-pub mod Texts
+pub mod Files
 pub mod Laws

@@ -30,7 +30,7 @@ slot_at slots number = slice_index_or slots number Vacant
 
 -- the row at a slot number: none where the slot is vacant or past the directory
 abbrev pub row_at : List Slot → ℕ → Option (List ℕ)
-row_at slots number = row_of (slice_index_or slots number Vacant)
+row_at slots number = row_of (slot_at slots number)
 
 -- the slots with one of them set; setting past the end adds vacant slots before it
 abbrev pub set_slot : List Slot → ℕ → Slot → List Slot

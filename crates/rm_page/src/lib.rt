@@ -6,6 +6,7 @@
 #![tactic(auto)]
 
 mod directory;
+mod files;
 
 ghost use Rattle.std.specs.Prelude.{◌≡◌, ℕ, ◌+◌, ◌<◌, ◌≤◌, [], length, option_copied, IfSome, IsSome, OnOk, OnErr};
 ghost use Rattle.rm_types.specs.declared.numbers.TheConstants.{MAX_SLOT};
@@ -13,6 +14,7 @@ ghost use Rattle.rm_types.specs.declared.rows.TheConstants.{MAX_ROW};
 ghost use Rattle.rm_model.specs.Pages.{used, row_at, set_slot};
 
 use crate::directory::{put, row_in, used_after};
+pub use crate::files::empty_pages;
 use rm_types::{CAPACITY, Lsn, NoMemory, Row, Slot};
 use std::alloc::Global;
 use std::marker::Model;
@@ -104,7 +106,7 @@ impl Page {
     }
 
     /// Sets one slot to a row, with `lsn` as the page's LSN. A slot past the end adds vacant ones before it.
-    /// The caller sees to it that the row fits, as [`Page::used_with`] tells: there is no refusal for space.
+    /// The caller ensures that the row fits, see [`Page::used_with`]: there is no refusal for space.
     ///
     /// # Errors
     ///

@@ -31,8 +31,8 @@ found_is bytes x fits e =
     let back : drop (length bytes - length x.1) bytes ≡ x.1 = ap (drop (length bytes - length x.1)) t.0.parts ∙ drop_at (spelling x.0) x.1 _ (sym long) in
     (t.1, long, t.0.parts ∙ ap (λ (l : List ℕ). spelling x.0 ++ l) (sym back))
 
-pub front_is : (bytes : List ℕ) (x : LogRecord × List ℕ) → AreBytes bytes → record_field bytes ≡ Some x → (length bytes - length x.1 ≤ length bytes) × (take (length bytes - length x.1) bytes ≡ spelling x.0)
-front_is bytes x fits e =
+pub prefix_is : (bytes : List ℕ) (x : LogRecord × List ℕ) → AreBytes bytes → record_field bytes ≡ Some x → (length bytes - length x.1 ≤ length bytes) × (take (length bytes - length x.1) bytes ≡ spelling x.0)
+prefix_is bytes x fits e =
     let t = record_takes bytes x fits e in
     let long = (taken_length bytes (spelling x.0) x.1 t.0.parts).1 in
     (omega arith, ap (take (length bytes - length x.1)) t.0.parts ∙ take_at (spelling x.0) x.1 _ (sym long))

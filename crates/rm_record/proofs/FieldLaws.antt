@@ -8,7 +8,7 @@ use Rattle.std.proofs.lemmas.Nat.{be_bytes_2, be_bytes_4, be_bytes_8, from_be_by
 use Rattle.rm_types.specs.declared.numbers.TxnId.{TxnId}
 use Rattle.rm_types.specs.declared.numbers.Lsn.{Lsn}
 use Rattle.rm_types.specs.declared.numbers.Rid.{Rid}
-use Rattle.rm_types.specs.declared.formats.TheConstants.{MAX_CATEGORY}
+use Rattle.rm_record.specs.declared.records.TheConstants.{MAX_RECORDED_CATEGORY}
 use Rattle.rm_types.specs.declared.numbers.TheConstants.{MAX_PAGES, MAX_SLOT}
 use Rattle.rm_types.specs.declared.slots.Slot.{Slot}
 use Rattle.rm_types.specs.declared.slots.Slot.TheVariants as slot
@@ -48,7 +48,7 @@ some x = Some x
 pub some_is : {A : Type 0} (x y : A) → some x ≡ some y → x ≡ y
 some_is x y e = cc
 
--- what was taken from the front
+-- what was taken from the start
 pub record Takes (bytes text rest : List ℕ) : Type 0 where
   pub parts : bytes ≡ text ++ rest
   pub rest_fits : AreBytes rest
@@ -221,12 +221,12 @@ change_is =
     (made_is (λ (p : ChangeParts). let change : Change = record { txn = p.0; under = p.1.0; rid = p.1.1.0; need = p.1.1.1 } in change) (λ change. (change.txn, (change.under, (change.rid, change.need)))) (λ p. refl) (λ change. refl)
     (both_is txn_is (both_is lsn_is (both_is rid_is need_is))))
 
-pub category_is : IsField category_field (λ n. n ∷ []) (λ n. n ≤ MAX_CATEGORY)
+pub category_is : IsField category_field (λ n. n ∷ []) (λ n. n ≤ MAX_RECORDED_CATEGORY)
 unfolding category_field
 category_is =
-    kept_is (λ n. nat_le n MAX_CATEGORY) (λ n. n ≤ MAX_CATEGORY)
-    (λ n lt passes. leb-true n MAX_CATEGORY passes)
-    (λ n le. (omega (arith, le), le-leb n MAX_CATEGORY le))
+    kept_is (λ n. nat_le n MAX_RECORDED_CATEGORY) (λ n. n ≤ MAX_RECORDED_CATEGORY)
+    (λ n lt passes. leb-true n MAX_RECORDED_CATEGORY passes)
+    (λ n le. (omega (arith, le), le-leb n MAX_RECORDED_CATEGORY le))
     byte_is
 
 pub next_is : IsField next_field (to_be_bytes w64) (λ n. (0 < n) × (n ≤ 2 ^ 32))
@@ -273,9 +273,9 @@ chosen false x y z e = inr (refl, e)
 pub nothing : {A B : Type 0} (x : A) → let none : Option A = None in none ≡ Some x → B
 nothing x e = absurd cc
 
--- behind one more byte
-pub Takes-behind : (byte : ℕ) (bytes text rest : List ℕ) → Takes bytes text rest → Takes (byte ∷ bytes) (byte ∷ text) rest
-Takes-behind byte bytes text rest t = record { parts = ap (λ (l : List ℕ). byte ∷ l) t.parts; rest_fits = t.rest_fits }
+-- after one more byte
+pub Takes-after : (byte : ℕ) (bytes text rest : List ℕ) → Takes bytes text rest → Takes (byte ∷ bytes) (byte ∷ text) rest
+Takes-after byte bytes text rest t = record { parts = ap (λ (l : List ℕ). byte ∷ l) t.parts; rest_fits = t.rest_fits }
 
 vacant_takes : (bytes : List ℕ) (x : Slot × List ℕ) → AreBytes bytes → (let found : Option (Slot × List ℕ) = Some (slot.Vacant, bytes) in found ≡ Some x) → Takes (0 ∷ bytes) (slot_bytes x.0) x.1 × IsSlot x.0
 vacant_takes bytes x fits e =
@@ -288,7 +288,7 @@ occupied_takes bytes x fits e =
     let a = bind_some (row_field bytes) (λ p. Some (slot.Row p.0, p.1)) x e in
     let t = row_is.takes bytes a.0 fits a.1 in
     let found : Slot × List ℕ = (slot.Row a.0.0, a.0.1) in
-    subst (λ (y : Slot × List ℕ). Takes (1 ∷ bytes) (slot_bytes y.0) y.1 × IsSlot y.0) (some_is found x a.2) (Takes-behind 1 bytes _ _ t.0, t.1)
+    subst (λ (y : Slot × List ℕ). Takes (1 ∷ bytes) (slot_bytes y.0) y.1 × IsSlot y.0) (some_is found x a.2) (Takes-after 1 bytes _ _ t.0, t.1)
 
 slot_takes : (bytes : List ℕ) (x : Slot × List ℕ) → AreBytes bytes → slot_field bytes ≡ Some x → Takes bytes (slot_bytes x.0) x.1 × IsSlot x.0
 unfolding slot_field

@@ -16,7 +16,7 @@ place_is low high within =
     made_is (λ (p : ℕ × ℕ). let place : Place = record { number = p.0; at = p.1 } in place) (λ place. (place.number, place.at)) (λ p. refl) (λ place. refl)
     (both_is (between_is w32 (2 ^ 32) low high wide32 within) (number_is w64 (2 ^ 64) wide64))
 
--- ---- so many places
+-- ---- this many places
 
 abbrev pub Entries : Type 0
 Entries = List Place × List ℕ
@@ -86,21 +86,21 @@ places_few high places are = omega (arith, between_few 0 high places (omega arit
 
 -- ---- one place after the other
 
--- places with more behind them
-abbrev pub behind : List Place → Option Entries → Option Entries
-behind places None = None
-behind places (Some more) = Some (places ++ more.0, more.1)
+-- places with more after them
+abbrev pub with_more : List Place → Option Entries → Option Entries
+with_more places None = None
+with_more places (Some more) = Some (places ++ more.0, more.1)
 
-pub behind_none : (more : Option Entries) → more ≡ behind [] more
-behind_none None = refl
-behind_none (Some more) = refl
+pub with_more_none : (more : Option Entries) → more ≡ with_more [] more
+with_more_none None = refl
+with_more_none (Some more) = refl
 
--- one more place, and the rest behind it
-behind_one : (places : List Place) (place : Place) (more : Option Entries) → behind places (more >>= λ m. Some (place ∷ m.0, m.1)) ≡ behind (places ++ place ∷ []) more
-behind_one places place None = refl
-behind_one places place (Some more) = ap (λ (l : List Place). let found : Option Entries = Some (l, more.1) in found) (sym (append_assoc places (place ∷ []) more.0))
+-- one more place, and the rest after it
+with_more_one : (places : List Place) (place : Place) (more : Option Entries) → with_more places (more >>= λ m. Some (place ∷ m.0, m.1)) ≡ with_more (places ++ place ∷ []) more
+with_more_one places place None = refl
+with_more_one places place (Some more) = ap (λ (l : List Place). let found : Option Entries = Some (l, more.1) in found) (sym (append_assoc places (place ∷ []) more.0))
 
 pub entries_more : (n low high : ℕ) (bytes : List ℕ) (places : List Place) (place : Place) (rest : List ℕ) → place_field low high bytes ≡ Some (place, rest)
-    → behind places (entries_field (suc n) low high bytes) ≡ behind (places ++ place ∷ []) (entries_field n (place.number + 1) high rest)
+    → with_more places (entries_field (suc n) low high bytes) ≡ with_more (places ++ place ∷ []) (entries_field n (place.number + 1) high rest)
 entries_more n low high bytes places place rest e =
-    rw e (behind_one places place (entries_field n (place.number + 1) high rest))
+    rw e (with_more_one places place (entries_field n (place.number + 1) high rest))

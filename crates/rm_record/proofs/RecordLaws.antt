@@ -5,7 +5,7 @@ use Rattle.std.proofs.lemmas.Bool.{eqb-true}
 use Rattle.rm_types.specs.declared.numbers.TxnId.{TxnId}
 use Rattle.rm_types.specs.declared.numbers.Lsn.{Lsn}
 use Rattle.rm_types.specs.declared.numbers.Rid.{Rid}
-use Rattle.rm_types.specs.declared.formats.TheConstants.{MAX_CATEGORY}
+use Rattle.rm_record.specs.declared.records.TheConstants.{MAX_RECORDED_CATEGORY}
 use Rattle.rm_types.specs.declared.numbers.TheConstants.{MAX_PAGES, MAX_BLOCKS}
 use Rattle.rm_types.specs.declared.places.Place.{Place}
 use Rattle.rm_types.specs.declared.slots.Slot.{Slot}
@@ -16,10 +16,10 @@ use Rattle.rm_record.specs.Places.{places_bytes, ArePlaces}
 use Rattle.rm_record.specs.Records.{AreBytes, IsTxn, IsRid, IsRow, IsSlot, IsChange, IsRecord, rid_bytes, row_bytes, slot_bytes, change_bytes, spelling}
 use Rattle.rm_record.specs.Fields.{Reads, made}
 use Rattle.rm_record.specs.Reading.{row_parts, insert_fields, delete_fields, update_parts, update_fields, compensate_parts, compensate_fields, inventory_parts, inventory_fields, commit_fields, end_fields, checkpoint_parts, checkpoint_fields, fields_of, record_field}
-use Rattle.rm_record.proofs.FieldLaws.{bind_some, some_is, Takes, Takes-behind, IsField, both_is, chosen, nothing, txn_is, lsn_is, page_is, rid_is, change_is, row_is, slot_is, category_is, next_is}
+use Rattle.rm_record.proofs.FieldLaws.{bind_some, some_is, Takes, Takes-after, IsField, both_is, chosen, nothing, txn_is, lsn_is, page_is, rid_is, change_is, row_is, slot_is, category_is, next_is}
 use Rattle.rm_record.proofs.PlaceLaws.{places_are}
 
--- what is read behind a kind is a record of that kind
+-- what is read after a kind is a record of that kind
 abbrev Kind : ℕ → Reads LogRecord → Type 0
 Kind kind fields = (bytes : List ℕ) (x : LogRecord × List ℕ) → AreBytes bytes → fields bytes ≡ Some x → Takes (kind ∷ bytes) (spelling x.0) x.1 × IsRecord x.0
 
@@ -30,7 +30,7 @@ kind_of {A} kind make {parts} {text} {Has} are spelled has bytes x fits e =
     let a = bind_some (parts bytes) (λ p. Some (make p.0, p.1)) x e in
     let t = are.takes bytes a.0 fits a.1 in
     let found : LogRecord × List ℕ = (make a.0.0, a.0.1) in
-    let whole = subst (λ (l : List ℕ). Takes (kind ∷ bytes) l a.0.1) (sym (spelled a.0.0)) (Takes-behind kind bytes (text a.0.0) a.0.1 t.0) in
+    let whole = subst (λ (l : List ℕ). Takes (kind ∷ bytes) l a.0.1) (sym (spelled a.0.0)) (Takes-after kind bytes (text a.0.0) a.0.1 t.0) in
     subst (λ (y : LogRecord × List ℕ). Takes (kind ∷ bytes) (spelling y.0) y.1 × IsRecord y.0) (some_is found x a.2) (whole, has a.0.0 t.1)
 
 -- ---- each kind
@@ -69,7 +69,7 @@ compensate_takes =
     kind_of 4 (λ (p : TxnId × (Lsn × (Lsn × (Rid × Slot)))). log.Compensate p.0 p.1.0 p.1.1.0 p.1.1.1.0 p.1.1.1.1) compensate_parts_are (λ p. refl)
     (λ p has. record { by = has.0; undoes = has.1.0; above = has.1.1.0; place = has.1.1.1.0; held = has.1.1.1.1 })
 
-inventory_parts_are : IsField inventory_parts (λ p. to_be_bytes w32 p.0.0 ++ (to_be_bytes w32 p.1.0 ++ p.1.1 ∷ [])) (λ p. IsTxn p.0 × ((p.1.0 < MAX_PAGES) × (p.1.1 ≤ MAX_CATEGORY)))
+inventory_parts_are : IsField inventory_parts (λ p. to_be_bytes w32 p.0.0 ++ (to_be_bytes w32 p.1.0 ++ p.1.1 ∷ [])) (λ p. IsTxn p.0 × ((p.1.0 < MAX_PAGES) × (p.1.1 ≤ MAX_RECORDED_CATEGORY)))
 inventory_parts_are = both_is txn_is (both_is page_is category_is)
 
 inventory_takes : Kind 5 inventory_fields

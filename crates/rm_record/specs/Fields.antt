@@ -4,7 +4,6 @@ use Rattle.std.specs.Int.{Width, w16, w32, w64, byte_len, from_be_bytes}
 use Rattle.rm_types.specs.declared.numbers.TxnId.{TxnId}
 use Rattle.rm_types.specs.declared.numbers.Lsn.{Lsn}
 use Rattle.rm_types.specs.declared.numbers.Rid.{Rid}
-use Rattle.rm_types.specs.declared.formats.TheConstants.{MAX_CATEGORY}
 use Rattle.rm_types.specs.declared.numbers.TheConstants.{MAX_PAGES, MAX_SLOT}
 use Rattle.rm_types.specs.declared.places.Place.{Place}
 use Rattle.rm_types.specs.declared.rows.TheConstants.{MAX_ROW}
@@ -12,10 +11,11 @@ use Rattle.rm_types.specs.declared.slots.Slot.{Slot}
 use Rattle.rm_types.specs.declared.slots.Slot.TheVariants as slot
 use Rattle.rm_types.specs.declared.slots.TheConstants.{CAPACITY}
 use Rattle.rm_record.specs.declared.fields.Change.{Change}
+use Rattle.rm_record.specs.declared.records.TheConstants.{MAX_RECORDED_CATEGORY}
 use Rattle.rm_record.specs.declared.refused.DecodeRefused.{DecodeRefused}
 use Rattle.rm_record.specs.declared.refused.DecodeRefused.TheVariants as refused
 
--- a refusal says that nothing is read, but for want of memory
+-- a refusal says that nothing is read, unless memory ran out
 abbrev pub Refuses : {Y : Type 0} → DecodeRefused → Option Y → Type 0
 Refuses refused.Bad read = read ≡ None
 Refuses refused.NoMemory read = Unit {0}
@@ -61,7 +61,7 @@ abbrev pub byte_field : Reads ℕ
 byte_field [] = None
 byte_field (byte ∷ rest) = Some (byte, rest)
 
--- a number of so many bytes
+-- a number of this width
 abbrev pub number_field : Width → Reads ℕ
 number_field w bytes = if nat_lt (length bytes) (byte_len w) then None else Some (from_be_bytes w (take (byte_len w) bytes), drop (byte_len w) bytes)
 
@@ -112,7 +112,7 @@ slot_field (form ∷ rest) = if form == 0 then Some (slot.Vacant, rest) else if 
 
 -- a page's category
 unfoldable pub category_field : Reads ℕ
-category_field bytes = kept (λ n. nat_le n MAX_CATEGORY) byte_field bytes
+category_field bytes = kept (λ n. nat_le n MAX_RECORDED_CATEGORY) byte_field bytes
 
 -- the next id of a transaction
 unfoldable pub next_field : Reads ℕ
@@ -124,7 +124,7 @@ next_field bytes = number_between w64 1 (2 ^ 32) bytes
 unfoldable pub place_field : ℕ → ℕ → Reads Place
 place_field low high bytes = made (λ n. record { number = n.0; at = n.1 }) (both (number_between w32 low high) (number_field w64)) bytes
 
--- so many places, each number being greater than the one before
+-- this many places, each number being greater than the one before
 abbrev pub entries_field : ℕ → ℕ → ℕ → Reads (List Place)
 entries_field zero low high bytes = Some ([], bytes)
 entries_field (suc n) low high bytes = do

@@ -5,7 +5,6 @@ use Rattle.std.specs.Int.{w16, w32, w64, to_be_bytes}
 use Rattle.rm_types.specs.declared.numbers.TxnId.{TxnId}
 use Rattle.rm_types.specs.declared.numbers.Lsn.{Lsn}
 use Rattle.rm_types.specs.declared.numbers.Rid.{Rid}
-use Rattle.rm_types.specs.declared.formats.TheConstants.{MAX_CATEGORY}
 use Rattle.rm_types.specs.declared.numbers.TheConstants.{MAX_PAGES, MAX_SLOT, MAX_BLOCKS}
 use Rattle.rm_types.specs.declared.places.Place.{Place}
 use Rattle.rm_types.specs.declared.rows.TheConstants.{MAX_ROW}
@@ -13,6 +12,7 @@ use Rattle.rm_types.specs.declared.slots.Slot.{Slot}
 use Rattle.rm_types.specs.declared.slots.Slot.TheVariants as slot
 use Rattle.rm_types.specs.declared.slots.TheConstants.{CAPACITY}
 use Rattle.rm_record.specs.declared.records.LogRecord.{LogRecord}
+use Rattle.rm_record.specs.declared.records.TheConstants.{MAX_RECORDED_CATEGORY}
 use Rattle.rm_record.specs.declared.records.LogRecord.TheVariants as log
 use Rattle.rm_record.specs.Places.{places_bytes, ArePlaces}
 
@@ -26,12 +26,12 @@ rid_bytes rid = to_be_bytes w32 rid.page ++ to_be_bytes w16 rid.slot
 abbrev pub row_bytes : List ℕ → List ℕ
 row_bytes row = to_be_bytes w16 (length row) ++ row
 
--- what a slot holds: a byte of form, and behind form 1 the row
+-- what a slot holds: a byte of form, and after form 1 the row
 abbrev pub slot_bytes : Slot → List ℕ
 slot_bytes slot.Vacant = 0 ∷ []
 slot_bytes (slot.Row row) = 1 ∷ row_bytes row
 
--- what each change begins with behind its kind: its transaction, the pending record below it, its row id and its need
+-- what each change begins with after its kind: its transaction, the pending record below it, its row id and its need
 abbrev pub change_bytes : TxnId → Lsn → Rid → ℕ → List ℕ
 change_bytes txn under rid need = to_be_bytes w32 txn.0 ++ (to_be_bytes w64 under.0 ++ (rid_bytes rid ++ to_be_bytes w16 need))
 
@@ -49,6 +49,13 @@ spelling (log.Checkpoint next losers pages blocks) = 8 ∷ (to_be_bytes w64 next
 -- records one after another, the oldest first
 abbrev pub spelling_all : List LogRecord → List ℕ
 spelling_all records = flat_map spelling records
+
+-- the record makes a change
+abbrev pub MakesChange : LogRecord → Type 0
+MakesChange (log.Insert txn under rid need row) = Unit {0}
+MakesChange (log.Delete txn under rid need row) = Unit {0}
+MakesChange (log.Update txn under rid need before after) = Unit {0}
+MakesChange other = ⊥
 
 -- ---- ranges
 
@@ -93,7 +100,7 @@ pub record IsCompensation (txn : TxnId) (undone next : Lsn) (rid : Rid) (back : 
 pub record IsInventory (txn : TxnId) (page category : ℕ) : Type 0 where
   pub by : IsTxn txn
   pub page_in : page < MAX_PAGES
-  pub category_in : category ≤ MAX_CATEGORY
+  pub category_in : category ≤ MAX_RECORDED_CATEGORY
 
 -- the ranges of a checkpoint: the next id of a transaction, and for each list from which number on and to which
 pub record IsCheckpoint (next : ℕ) (losers pages blocks : List Place) : Type 0 where

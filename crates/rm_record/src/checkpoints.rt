@@ -1,4 +1,4 @@
-//! The lists of a checkpoint, read from the front of bytes and appended.
+//! The lists of a checkpoint, read from the start of bytes, and appended.
 
 ghost use Rattle.std.specs.Prelude.{◌≡◌, ◌+◌, ◌≤◌, ◌++◌, length, vec_len, IfOk};
 ghost use Rattle.std.specs.Vec.{vec_capacity};
@@ -14,7 +14,7 @@ use std::alloc::Global;
 /// The greatest next id of a transaction: all ids are given then.
 const MAX_NEXT: u64 = 1 << 32;
 
-/// The next id of a transaction, and the bytes behind it.
+/// The next id of a transaction, and the bytes after it.
 #[tactic(auto, unfolding(crate::specs::Fields::next_field))]
 pub(crate) fn next_of(bytes: &[u8]) -> Result<(u64, &[u8]), DecodeRefused>
     ensures { Gives (λ x. (x.0, x.1.now)) result (next_field bytes.now) }
@@ -26,7 +26,7 @@ pub(crate) fn next_of(bytes: &[u8]) -> Result<(u64, &[u8]), DecodeRefused>
     Ok((next, rest))
 }
 
-// A place whose number is from `low` on and at most `high`, and the bytes behind it.
+// A place whose number is from `low` on and at most `high`, and the bytes after it.
 #[tactic(auto, unfolding(crate::specs::Fields::place_field))]
 fn place_of(bytes: &[u8], low: u64, high: u32) -> Result<(Place, &[u8]), DecodeRefused>
     ensures value { Gives (λ x. (x.0, x.1.now)) result (place_field low high bytes.now) }
@@ -43,7 +43,7 @@ fn place_of(bytes: &[u8], low: u64, high: u32) -> Result<(Place, &[u8]), DecodeR
     Ok((Place { number, at }, rest))
 }
 
-/// Places whose numbers are from `low` on and at most `high`, and the bytes behind them.
+/// Places whose numbers are from `low` on and at most `high`, and the bytes after them.
 #[tactic(auto, unfolding(crate::specs::Fields::places_field))]
 pub(crate) fn places_of(
     alloc: Global,
@@ -57,10 +57,10 @@ pub(crate) fn places_of(
     let mut places = Places::new(alloc);
     let mut least = u64::from(low);
     for _place in 0..count {
-        let (place, behind) = place_of(rest, least, high)?;
+        let (place, after) = place_of(rest, least, high)?;
         places.push(place)?;
         least = u64::from(place.number) + 1;
-        rest = behind;
+        rest = after;
     }
     Ok((places, rest))
 }

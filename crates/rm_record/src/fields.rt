@@ -1,53 +1,53 @@
-//! The fields of a record, read from the front of bytes.
+//! The fields of a record, read from the start of bytes.
 
 ghost use Rattle.std.specs.Prelude.{◌≡◌, ◌≤◌, length, IfOk};
 ghost use Rattle.std.specs.Int.{w16, w32, w64};
 ghost use Rattle.rm_types.specs.declared.rows.TheConstants.{MAX_ROW};
 ghost use Rattle.rm_record.specs.Fields.{Gives, number_field, txn_field, lsn_field, page_field, rid_field, need_field, change_field, row_field, slot_field, category_field};
 
-use crate::records::{OCCUPIED, VACANT};
+use crate::records::{MAX_RECORDED_CATEGORY, OCCUPIED, VACANT};
 use crate::refused::DecodeRefused;
-use rm_types::{CAPACITY, Lsn, MAX_CATEGORY, MAX_PAGES, MAX_ROW, MAX_SLOT, Rid, Row, Slot, TxnId};
+use rm_types::{CAPACITY, Lsn, MAX_PAGES, MAX_ROW, MAX_SLOT, Rid, Row, Slot, TxnId};
 use std::alloc::Global;
 
-/// A number of two bytes, and the bytes behind it.
+/// A number of two bytes, and the bytes after it.
 pub(crate) fn u16_of(bytes: &[u8]) -> Result<(u16, &[u8]), DecodeRefused>
     ensures { Gives (λ x. (x.0, x.1.now)) result (number_field w16 bytes.now) }
 {
     if bytes.len() < 2 {
         return Err(DecodeRefused::Bad);
     }
-    let (front, rest) = bytes.split_at(2);
-    Ok((u16::from_be_bytes([front[0], front[1]]), rest))
+    let (first, rest) = bytes.split_at(2);
+    Ok((u16::from_be_bytes([first[0], first[1]]), rest))
 }
 
-/// A number of four bytes, and the bytes behind it.
+/// A number of four bytes, and the bytes after it.
 pub(crate) fn u32_of(bytes: &[u8]) -> Result<(u32, &[u8]), DecodeRefused>
     ensures { Gives (λ x. (x.0, x.1.now)) result (number_field w32 bytes.now) }
 {
     if bytes.len() < 4 {
         return Err(DecodeRefused::Bad);
     }
-    let (front, rest) = bytes.split_at(4);
-    let number = u32::from_be_bytes([front[0], front[1], front[2], front[3]]);
+    let (first, rest) = bytes.split_at(4);
+    let number = u32::from_be_bytes([first[0], first[1], first[2], first[3]]);
     Ok((number, rest))
 }
 
-/// A number of eight bytes, and the bytes behind it.
+/// A number of eight bytes, and the bytes after it.
 pub(crate) fn u64_of(bytes: &[u8]) -> Result<(u64, &[u8]), DecodeRefused>
     ensures { Gives (λ x. (x.0, x.1.now)) result (number_field w64 bytes.now) }
 {
     if bytes.len() < 8 {
         return Err(DecodeRefused::Bad);
     }
-    let (front, rest) = bytes.split_at(8);
+    let (first, rest) = bytes.split_at(8);
     let number = u64::from_be_bytes([
-        front[0], front[1], front[2], front[3], front[4], front[5], front[6], front[7],
+        first[0], first[1], first[2], first[3], first[4], first[5], first[6], first[7],
     ]);
     Ok((number, rest))
 }
 
-/// A transaction's id, and the bytes behind it.
+/// A transaction's id, and the bytes after it.
 #[tactic(auto, unfolding(crate::specs::Fields::txn_field))]
 pub(crate) fn txn_of(bytes: &[u8]) -> Result<(TxnId, &[u8]), DecodeRefused>
     ensures { Gives (λ x. (x.0, x.1.now)) result (txn_field bytes.now) }
@@ -59,7 +59,7 @@ pub(crate) fn txn_of(bytes: &[u8]) -> Result<(TxnId, &[u8]), DecodeRefused>
     Ok((TxnId(number), rest))
 }
 
-/// An LSN, and the bytes behind it.
+/// An LSN, and the bytes after it.
 #[tactic(auto, unfolding(crate::specs::Fields::lsn_field))]
 pub(crate) fn lsn_of(bytes: &[u8]) -> Result<(Lsn, &[u8]), DecodeRefused>
     ensures { Gives (λ x. (x.0, x.1.now)) result (lsn_field bytes.now) }
@@ -68,7 +68,7 @@ pub(crate) fn lsn_of(bytes: &[u8]) -> Result<(Lsn, &[u8]), DecodeRefused>
     Ok((Lsn(number), rest))
 }
 
-/// A page's number, and the bytes behind it.
+/// A page's number, and the bytes after it.
 #[tactic(auto, unfolding(crate::specs::Fields::page_field))]
 pub(crate) fn page_of(bytes: &[u8]) -> Result<(u32, &[u8]), DecodeRefused>
     ensures { Gives (λ x. (x.0, x.1.now)) result (page_field bytes.now) }
@@ -80,7 +80,7 @@ pub(crate) fn page_of(bytes: &[u8]) -> Result<(u32, &[u8]), DecodeRefused>
     Ok((page, rest))
 }
 
-/// A row id, and the bytes behind it.
+/// A row id, and the bytes after it.
 #[tactic(auto, unfolding(crate::specs::Fields::rid_field))]
 pub(crate) fn rid_of(bytes: &[u8]) -> Result<(Rid, &[u8]), DecodeRefused>
     ensures { Gives (λ x. (x.0, x.1.now)) result (rid_field bytes.now) }
@@ -93,7 +93,7 @@ pub(crate) fn rid_of(bytes: &[u8]) -> Result<(Rid, &[u8]), DecodeRefused>
     Ok((Rid { page, slot }, rest))
 }
 
-// Bytes reserved on a page, and the bytes behind the number.
+// Bytes reserved on a page, and the bytes after the number.
 #[tactic(auto, unfolding(crate::specs::Fields::need_field))]
 fn need_of(bytes: &[u8]) -> Result<(u16, &[u8]), DecodeRefused>
     ensures { Gives (λ x. (x.0, x.1.now)) result (need_field bytes.now) }
@@ -127,7 +127,7 @@ impl Change {
     }
 }
 
-/// What a change begins with, and the bytes behind it.
+/// What a change begins with, and the bytes after it.
 #[tactic(auto, unfolding(crate::specs::Fields::change_field))]
 pub(crate) fn change_of(bytes: &[u8]) -> Result<(Change, &[u8]), DecodeRefused>
     ensures { Gives (λ x. (x.0, x.1.now)) result (change_field bytes.now) }
@@ -145,7 +145,7 @@ pub(crate) fn change_of(bytes: &[u8]) -> Result<(Change, &[u8]), DecodeRefused>
     Ok((change, rest))
 }
 
-// A row's bytes, and the bytes behind them.
+// A row's bytes, and the bytes after them.
 #[tactic(auto, unfolding(crate::specs::Fields::row_field))]
 fn row_bytes_of(bytes: &[u8]) -> Result<(&[u8], &[u8]), DecodeRefused>
     ensures value { Gives (λ x. (x.0.now, x.1.now)) result (row_field bytes.now) }
@@ -162,7 +162,7 @@ fn row_bytes_of(bytes: &[u8]) -> Result<(&[u8], &[u8]), DecodeRefused>
     Ok(rest.split_at(length))
 }
 
-/// A row, and the bytes behind it.
+/// A row, and the bytes after it.
 pub(crate) fn row_of(alloc: Global, bytes: &[u8]) -> Result<(Row, &[u8]), DecodeRefused>
     ensures { Gives (λ x. (x.0, x.1.now)) result (row_field bytes.now) }
 {
@@ -170,7 +170,7 @@ pub(crate) fn row_of(alloc: Global, bytes: &[u8]) -> Result<(Row, &[u8]), Decode
     Ok((Row::from_slice(alloc, row)?, rest))
 }
 
-/// What a slot holds, and the bytes behind it.
+/// What a slot holds, and the bytes after it.
 #[tactic(auto, unfolding(crate::specs::Fields::slot_field))]
 pub(crate) fn slot_of(alloc: Global, bytes: &[u8]) -> Result<(Slot, &[u8]), DecodeRefused>
     ensures { Gives (λ x. (x.0, x.1.now)) result (slot_field bytes.now) }
@@ -185,7 +185,7 @@ pub(crate) fn slot_of(alloc: Global, bytes: &[u8]) -> Result<(Slot, &[u8]), Deco
     }
 }
 
-/// A page's category, and the bytes behind it.
+/// A page's category, and the bytes after it.
 #[tactic(auto, unfolding(crate::specs::Fields::category_field))]
 pub(crate) fn category_of(bytes: &[u8]) -> Result<(u8, &[u8]), DecodeRefused>
     ensures { Gives (λ x. (x.0, x.1.now)) result (category_field bytes.now) }
@@ -193,7 +193,7 @@ pub(crate) fn category_of(bytes: &[u8]) -> Result<(u8, &[u8]), DecodeRefused>
     let [category, rest @ ..] = bytes else {
         return Err(DecodeRefused::Bad);
     };
-    if *category > MAX_CATEGORY {
+    if *category > MAX_RECORDED_CATEGORY {
         return Err(DecodeRefused::Bad);
     }
     Ok((*category, rest))

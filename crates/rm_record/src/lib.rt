@@ -14,7 +14,7 @@ mod refused;
 mod writing;
 
 pub use laws::{no_spelling_begins_another, spellings_are_short};
-pub use records::{LogRecord, Logged, MAX_CHANGE, MAX_RECORD, MIN_RECORD};
+pub use records::{LogRecord, Logged, MAX_CHANGE, MAX_RECORD, MAX_RECORDED_CATEGORY, MIN_RECORD};
 pub use refused::DecodeRefused;
 
 #[cfg(test)]

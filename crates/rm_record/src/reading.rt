@@ -17,7 +17,7 @@ use crate::refused::DecodeRefused;
 use rm_types::{MAX_BLOCKS, MAX_PAGES};
 use std::alloc::Global;
 
-/// An insert behind its kind byte, and the bytes behind it.
+/// An insert after its kind byte, and the bytes after it.
 #[tactic(auto, unfolding(crate::specs::Reading::insert_fields))]
 fn insert_of(alloc: Global, bytes: &[u8]) -> Result<(LogRecord, &[u8]), DecodeRefused>
     ensures { Gives (λ x. (x.0, x.1.now)) result (insert_fields bytes.now) }
@@ -42,7 +42,7 @@ fn insert_of(alloc: Global, bytes: &[u8]) -> Result<(LogRecord, &[u8]), DecodeRe
     Ok((insert, rest))
 }
 
-/// A delete behind its kind byte, and the bytes behind it.
+/// A delete after its kind byte, and the bytes after it.
 #[tactic(auto, unfolding(crate::specs::Reading::delete_fields))]
 fn delete_of(alloc: Global, bytes: &[u8]) -> Result<(LogRecord, &[u8]), DecodeRefused>
     ensures { Gives (λ x. (x.0, x.1.now)) result (delete_fields bytes.now) }
@@ -67,7 +67,7 @@ fn delete_of(alloc: Global, bytes: &[u8]) -> Result<(LogRecord, &[u8]), DecodeRe
     Ok((delete, rest))
 }
 
-/// An update behind its kind byte, and the bytes behind it.
+/// An update after its kind byte, and the bytes after it.
 #[tactic(auto, unfolding(crate::specs::Reading::update_fields))]
 fn update_of(alloc: Global, bytes: &[u8]) -> Result<(LogRecord, &[u8]), DecodeRefused>
     ensures { Gives (λ x. (x.0, x.1.now)) result (update_fields bytes.now) }
@@ -94,7 +94,7 @@ fn update_of(alloc: Global, bytes: &[u8]) -> Result<(LogRecord, &[u8]), DecodeRe
     Ok((update, rest))
 }
 
-/// A compensation behind its kind byte, and the bytes behind it.
+/// A compensation after its kind byte, and the bytes after it.
 #[tactic(auto, unfolding(crate::specs::Reading::compensate_fields))]
 fn compensate_of(alloc: Global, bytes: &[u8]) -> Result<(LogRecord, &[u8]), DecodeRefused>
     ensures { Gives (λ x. (x.0, x.1.now)) result (compensate_fields bytes.now) }
@@ -114,7 +114,7 @@ fn compensate_of(alloc: Global, bytes: &[u8]) -> Result<(LogRecord, &[u8]), Deco
     Ok((compensation, rest))
 }
 
-/// An inventory record behind its kind byte, and the bytes behind it.
+/// An inventory record after its kind byte, and the bytes after it.
 #[tactic(auto, unfolding(crate::specs::Reading::inventory_fields))]
 fn inventory_of(bytes: &[u8]) -> Result<(LogRecord, &[u8]), DecodeRefused>
     ensures { Gives (λ x. (x.0, x.1.now)) result (inventory_fields bytes.now) }
@@ -130,7 +130,7 @@ fn inventory_of(bytes: &[u8]) -> Result<(LogRecord, &[u8]), DecodeRefused>
     Ok((inventory, rest))
 }
 
-/// A commit behind its kind byte, and the bytes behind it.
+/// A commit after its kind byte, and the bytes after it.
 #[tactic(auto, unfolding(crate::specs::Reading::commit_fields))]
 fn commit_of(bytes: &[u8]) -> Result<(LogRecord, &[u8]), DecodeRefused>
     ensures { Gives (λ x. (x.0, x.1.now)) result (commit_fields bytes.now) }
@@ -139,7 +139,7 @@ fn commit_of(bytes: &[u8]) -> Result<(LogRecord, &[u8]), DecodeRefused>
     Ok((LogRecord::Commit { txn }, rest))
 }
 
-/// An end behind its kind byte, and the bytes behind it.
+/// An end after its kind byte, and the bytes after it.
 #[tactic(auto, unfolding(crate::specs::Reading::end_fields))]
 fn end_of(bytes: &[u8]) -> Result<(LogRecord, &[u8]), DecodeRefused>
     ensures { Gives (λ x. (x.0, x.1.now)) result (end_fields bytes.now) }
@@ -148,7 +148,7 @@ fn end_of(bytes: &[u8]) -> Result<(LogRecord, &[u8]), DecodeRefused>
     Ok((LogRecord::End { txn }, rest))
 }
 
-/// A checkpoint behind its kind byte, and the bytes behind it.
+/// A checkpoint after its kind byte, and the bytes after it.
 #[tactic(auto, unfolding(crate::specs::Reading::checkpoint_fields))]
 fn checkpoint_of(alloc: Global, bytes: &[u8]) -> Result<(LogRecord, &[u8]), DecodeRefused>
     ensures { Gives (λ x. (x.0, x.1.now)) result (checkpoint_fields bytes.now) }
@@ -166,7 +166,7 @@ fn checkpoint_of(alloc: Global, bytes: &[u8]) -> Result<(LogRecord, &[u8]), Deco
     Ok((checkpoint, rest))
 }
 
-/// A record of this kind behind its kind byte, and the bytes behind it.
+/// A record of this kind after its kind byte, and the bytes after it.
 #[tactic(auto, unfolding(crate::specs::Reading::fields_of))]
 fn fields_of(alloc: Global, kind: u8, bytes: &[u8]) -> Result<(LogRecord, &[u8]), DecodeRefused>
     ensures { Gives (λ x. (x.0, x.1.now)) result (fields_of kind bytes.now) }
@@ -184,7 +184,7 @@ fn fields_of(alloc: Global, kind: u8, bytes: &[u8]) -> Result<(LogRecord, &[u8])
     }
 }
 
-/// A record, and the bytes behind it.
+/// A record, and the bytes after it.
 fn record_of(alloc: Global, bytes: &[u8]) -> Result<(LogRecord, &[u8]), DecodeRefused>
     ensures { Gives (λ x. (x.0, x.1.now)) result (record_field bytes.now) }
 {
@@ -195,16 +195,16 @@ fn record_of(alloc: Global, bytes: &[u8]) -> Result<(LogRecord, &[u8]), DecodeRe
 }
 
 impl LogRecord {
-    /// The record whose spelling is a front of the bytes, and the length of that spelling. Bytes may follow it.
+    /// The record whose spelling is a prefix of the bytes, and the length of that spelling. Bytes may follow it.
     /// Memory is taken for its rows and lists alone.
     ///
     /// # Errors
     ///
-    /// [`DecodeRefused::Bad`]: no front of the bytes is the spelling of a record. [`DecodeRefused::NoMemory`]: there was
-    /// none for its rows and lists.
+    /// [`DecodeRefused::Bad`]: no prefix of the bytes is the spelling of a record. [`DecodeRefused::NoMemory`]: out of
+    /// memory for its rows and lists.
     pub fn decode(alloc: Global, bytes: &[u8]) -> Result<(LogRecord, usize), DecodeRefused>
         ensures found { IfOk result (λ found. IsRecord found.0 × (found.1 ≡ length (spelling found.0)) × (bytes.now ≡ spelling found.0 ++ drop found.1 bytes.now)) }
-        ensures front { IfOk result (λ found. (found.1 ≤ length bytes.now) × (take found.1 bytes.now ≡ spelling found.0)) }
+        ensures prefix { IfOk result (λ found. (found.1 ≤ length bytes.now) × (take found.1 bytes.now ≡ spelling found.0)) }
         ensures bad { result ≡ Err DecodeRefused.Bad → (logged : AnyRecord) (rest : List ℕ) → IsRecord logged → bytes.now ≡ spelling logged ++ rest → ⊥ }
     {
         match record_of(alloc, bytes) {

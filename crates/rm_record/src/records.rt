@@ -20,6 +20,10 @@ pub const MAX_RECORD: usize = CHECKPOINT_FRONT as usize
 /// The most bytes of a record that is no checkpoint: an update of one of the longest rows by another.
 pub const MAX_CHANGE: usize = CHANGE_FRONT as usize + 2 * (LENGTH_SIZE as usize + MAX_ROW);
 
+/// The greatest category that a record can have: the range of its byte, whatever the format. No format's greatest
+/// category is above it.
+pub const MAX_RECORDED_CATEGORY: u8 = 3;
+
 /// The kind byte of an insert.
 pub(crate) const INSERT: u8 = 1;
 
@@ -169,7 +173,7 @@ fn places_size(places: &Places) -> u32
 }
 
 impl LogRecord {
-    /// So many bytes hold each record whose spelling begins with this byte: [`MAX_RECORD`] for the kind byte of a
+    /// How many bytes hold any record whose spelling begins with this byte: [`MAX_RECORD`] for the kind byte of a
     /// checkpoint, and [`MAX_CHANGE`] for any other.
     pub fn most_bytes(first: u8) -> usize
         ensures enough { (logged : AnyRecord) → IsRecord logged → slice_index (spelling logged) 0 ≡ first → length (spelling logged) ≤ result }

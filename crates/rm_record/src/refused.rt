@@ -4,13 +4,16 @@ ghost use Rattle.std.specs.Prelude.{◌≡◌};
 ghost use Rattle.rm_record.specs.declared.refused.DecodeRefused.TheVariants as refused;
 
 use std::alloc::{AllocError, AllocFailed};
+use thiserror::Error;
 
 /// Why bytes are not read as a record.
-#[derive(Clone, Copy, Debug, PartialEq, Eq)]
+#[derive(Clone, Copy, Debug, PartialEq, Eq, Error)]
 pub enum DecodeRefused {
-    /// No front of the bytes is a record.
+    /// No prefix of the bytes is a record.
+    #[error("the bytes begin with no log record")]
     Bad,
     /// Memory for the record's rows and lists ran out.
+    #[error("out of memory")]
     NoMemory,
 }
 

@@ -2,7 +2,7 @@
 
 ghost use Rattle.std.specs.Prelude.{◌≡◌, ℕ, ◌+◌, ◌≤◌, ◌<◌, List, ◌∷◌, ◌++◌, length, vec_len, OnOk, OnErr};
 ghost use Rattle.std.specs.Vec.{vec_capacity};
-ghost use Rattle.rm_record.specs.Records.{change_bytes, row_bytes, spelling};
+ghost use Rattle.rm_record.specs.Records.{change_bytes, row_bytes, spelling, MakesChange};
 
 use crate::appending::{append, append_change, append_head, append_rid, append_row, append_slot};
 use crate::checkpoints::append_places;
@@ -71,9 +71,10 @@ fn append_checkpoint(next: u64, losers: &Places, pages: &Places, blocks: &Places
 }
 
 impl LogRecord {
-    // Appends the record, for which there is room.
-    fn append_to(&self, out: &mut Vec<u8>)
-        requires { vec_len out.old + length (spelling self.now) ≤ vec_capacity out.old }
+    // Appends the record of a change, for which there is room.
+    fn append_changed(&self, out: &mut Vec<u8>)
+        requires changes { MakesChange self.now }
+        requires room { vec_len out.old + length (spelling self.now) ≤ vec_capacity out.old }
         ensures items { out.new.items ≡ out.old.items ++ spelling self.now }
         ensures capacity { vec_capacity out.old ≤ vec_capacity out.new }
     {
@@ -100,6 +101,19 @@ impl LogRecord {
                 old,
                 new,
             } => append_update(Change::new(*txn, *under, *rid, *need), old, new, out),
+            _ => {}
+        }
+    }
+
+    // Appends the record, for which there is room.
+    fn append_to(&self, out: &mut Vec<u8>)
+        requires { vec_len out.old + length (spelling self.now) ≤ vec_capacity out.old }
+        ensures items { out.new.items ≡ out.old.items ++ spelling self.now }
+        ensures capacity { vec_capacity out.old ≤ vec_capacity out.new }
+    {
+        match self {
+            LogRecord::Insert { .. } | LogRecord::Delete { .. } | LogRecord::Update { .. } =>
+                self.append_changed(out),
             LogRecord::Compensate {
                 txn,
                 undone,

@@ -1,4 +1,3 @@
-pub mod Pages
 pub mod Misfits
 pub mod Openings
 pub mod Soundness

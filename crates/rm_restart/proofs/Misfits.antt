@@ -10,7 +10,7 @@ use Rattle.rm_types.specs.declared.slots.Slot.{Slot}
 use Rattle.rm_types.specs.declared.slots.Slot.TheVariants.{Row}
 use Rattle.rm_types.specs.declared.slots.TheConstants.{CAPACITY}
 use Rattle.rm_model.specs.Pages.{used, set_slot}
-use Rattle.rm_model.specs.Session.{page_at}
+use Rattle.rm_model.specs.Files.{page_at, slots_of}
 use Rattle.rm_record.specs.declared.records.LogRecord.{LogRecord}
 use Rattle.rm_record.specs.declared.records.LogRecord.TheVariants.{Insert}
 use Rattle.rm_record.specs.declared.records.Logged.{Logged}
@@ -24,7 +24,7 @@ use Rattle.rm_restart.specs.declared.replay.ReplayRefused.TheVariants.{Misfit, N
 use Rattle.rm_restart.specs.Plain.{ArePlain}
 use Rattle.rm_restart.specs.declared.replay.Replay.{Replay}
 use Rattle.rm_restart.specs.Opening.{IsMisfit, IsMisfitAt}
-use Rattle.rm_restart.specs.Replaying.{slots_of, Replays, LacksPlace}
+use Rattle.rm_restart.specs.Replaying.{Replays, LacksPlace}
 use Rattle.rm_restart.specs.Refusals.{IfMisfit}
 
 -- a history has no more records that restart repeats than records

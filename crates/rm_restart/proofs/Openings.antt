@@ -13,7 +13,7 @@ use Rattle.rm_master.specs.declared.fields.Fields.{Fields}
 use Rattle.rm_master.specs.Fields.{IsFields}
 use Rattle.rm_master.specs.Slots.{HasFields}
 use Rattle.rm_model.specs.Pages.{PageValue}
-use Rattle.rm_model.specs.Session.{page_at}
+use Rattle.rm_model.specs.Files.{page_at, slots_of}
 use Rattle.rm_wal.specs.Tails.{LogValue}
 use Rattle.rm_wal.specs.Attaching.{Attaches}
 use Rattle.rm_history.specs.Logs.{IsDamagedAt as IsLogDamagedAt}
@@ -26,7 +26,7 @@ use Rattle.rm_restart.specs.declared.faults.RestartFault.{RestartFault}
 use Rattle.rm_restart.specs.declared.replay.Replay.{Replay}
 use Rattle.rm_restart.specs.Opening.{Opens, IsDamage}
 use Rattle.rm_restart.specs.Outcomes.{Explains, of_store, IsNone}
-use Rattle.rm_restart.specs.Replaying.{slots_of, has_some, Replays}
+use Rattle.rm_restart.specs.Replaying.{has_some, Replays}
 
 -- a fault of the log's attaching
 pub explains_store : {T : Type 0} (told : Type 0) (content : Image) (before after : Area → ℕ) (fields : Fields) (result : Result T StoreFault) (e : StoreFault) → result ≡ Err e

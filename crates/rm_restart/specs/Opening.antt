@@ -6,7 +6,7 @@ use Rattle.rm_types.specs.declared.slots.Slot.{Slot}
 use Rattle.rm_types.specs.declared.slots.TheConstants.{CAPACITY}
 use Rattle.rm_outside.specs.Images.{Image}
 use Rattle.rm_model.specs.Pages.{used}
-use Rattle.rm_model.specs.Session.{page_at}
+use Rattle.rm_model.specs.Files.{page_at}
 use Rattle.rm_master.specs.declared.fields.Fields.{Fields}
 use Rattle.rm_master.specs.Fields.{IsFields}
 use Rattle.rm_master.specs.Slots.{HasFields, IsDamagedAt as IsMasterDamagedAt}

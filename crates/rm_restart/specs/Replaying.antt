@@ -1,13 +1,13 @@
 -- What a replay of a history has found.
-use Rattle.std.specs.Prelude.{◌≡◌, ℕ, ◌<◌, ◌≤◌, Bool, true, false, List, [], ◌∷◌, length, map, ◌⊎◌}
+use Rattle.std.specs.Prelude.{◌≡◌, ℕ, ◌<◌, ◌≤◌, Bool, true, false, List, [], ◌∷◌, length, ◌⊎◌}
 use Rattle.std.specs.Ordering.{nat_cmp}
 use Rattle.std.specs.BTreeSet.{contains}
 use Rattle.rm_types.specs.declared.numbers.Rid.{Rid}
 use Rattle.rm_types.specs.declared.slots.Slot.{Slot}
 use Rattle.rm_types.specs.declared.slots.Slot.TheVariants.{Row}
 use Rattle.rm_types.specs.declared.slots.TheConstants.{CAPACITY}
-use Rattle.rm_model.specs.Pages.{PageValue, used, set_slot}
-use Rattle.rm_model.specs.Session.{page_at}
+use Rattle.rm_model.specs.Pages.{used, set_slot}
+use Rattle.rm_model.specs.Files.{slots_of, page_at}
 use Rattle.rm_history.specs.Acts.{Change, History}
 use Rattle.rm_history.specs.Contents.{page_of}
 use Rattle.rm_history.specs.Pending.{pending_of}
@@ -16,10 +16,6 @@ use Rattle.rm_history.specs.Counts.{repeat_count}
 use Rattle.rm_history.specs.Batched.{AreBelow}
 use Rattle.rm_restart.specs.Plain.{ArePlain}
 use Rattle.rm_restart.specs.declared.replay.Replay.{Replay}
-
--- the slots of each page
-abbrev pub slots_of : List PageValue → List (List Slot)
-slots_of pages = map (λ page. page.slots) pages
 
 -- there are some changes
 abbrev pub has_some : List Change → Bool

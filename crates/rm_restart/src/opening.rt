@@ -11,7 +11,7 @@ ghost use Rattle.rm_master.specs.Fields.{IsFields};
 ghost use Rattle.rm_master.specs.Slots.{HasFields, IsUnmade};
 ghost use Rattle.rm_restart.specs.Opening.{Opens, NeedsUndoOf, IsDamage};
 ghost use Rattle.rm_restart.specs.Outcomes.{Explains, IsNone, IsUndo};
-ghost use Rattle.rm_restart.specs.Replaying.{slots_of};
+ghost use Rattle.rm_model.specs.Files.{slots_of};
 
 use crate::faults::RestartFault;
 use crate::replay::{Replay, replayed};

@@ -2,15 +2,15 @@
 
 ghost use Rattle.std.specs.Prelude.{◌≡◌, ℕ, ◌^◌, ◌<◌, [], ◌∷◌, length, replicate, IfOk, OnOk, IfErr, IfSome, IfNone};
 ghost use Rattle.rm_types.specs.declared.numbers.Lsn.{Lsn as Lsns};
-ghost use Rattle.rm_model.specs.Session.{set_row as with_row_set};
+ghost use Rattle.rm_model.specs.Files.{set_row as with_row_set, slots_of};
 ghost use Rattle.rm_record.specs.declared.records.LogRecord.TheVariants as log;
 ghost use Rattle.rm_history.specs.Acts.{History, act_at, act_of, acts_of};
 ghost use Rattle.rm_restart.specs.Opening.{IsMisfit, IsMisfitAt};
 ghost use Rattle.rm_restart.specs.Outcomes.{IsLeastOf, IsNone};
-ghost use Rattle.rm_restart.specs.Replaying.{slots_of, Replays, LacksPlace};
+ghost use Rattle.rm_restart.specs.Replaying.{Replays, LacksPlace};
 ghost use Rattle.rm_restart.specs.Refusals.{IfMisfit};
 
-use rm_page::Page;
+use rm_page::{Page, empty_pages};
 use rm_record::{LogRecord, Logged};
 use rm_types::{CAPACITY, Lsn, NoMemory, Rid, TxnId};
 use std::alloc::{AllocError, AllocFailed, Global};
@@ -33,17 +33,6 @@ impl From<NoMemory> for ReplayRefused {
     fn from(_e: NoMemory) -> ReplayRefused {
         ReplayRefused::NoMemory
     }
-}
-
-// So many pages without rows.
-fn empty_pages(alloc: Global, count: u32) -> Result<Vec<Page>, NoMemory>
-    ensures { IfOk result (λ pages. slots_of pages.items ≡ replicate count []) }
-{
-    let mut pages = Vec::with_capacity(alloc, count as usize)?;
-    for _page in 0..count {
-        pages.push_reserved(Page::new(alloc));
-    }
-    Ok(pages)
 }
 
 // Sets the row at a row id.

@@ -1,14 +1,14 @@
 -- The first line of some bytes, and the lines that were read so far.
 use Rattle.std.proofs.Common.{◌≡◌, ℕ, suc, ◌+◌, ◌<◌, ◌==◌, List, [], ◌∷◌, ◌++◌, length, Option, Some, None, IfSome, IfNone, unwrap_or, refl, sym, ap, ◌∙◌, arith, append_assoc}
 use Rattle.std.specs.Borrow.{Bor}
-use Rattle.rm_types.specs.declared.lines.Line.{Line}
-use Rattle.rm_model.specs.Grammar.{IsLine, AreLines, IsFirstWrong, lines_of}
-use Rattle.rm_model.proofs.LinesOf.{lines_of-cut, lines_of-last, some_line}
+use Rattle.rm_script.specs.declared.lines.Line.{Line}
+use Rattle.rm_script.specs.Grammar.{IsLine, AreLines, IsFirstWrong, lines_of}
+use Rattle.rm_script.proofs.LinesOf.{lines_of-cut, lines_of-last, some_line}
 use Rattle.rm_script.specs.Cuts.{IsCut, Lacks}
 use Rattle.rm_script.specs.Reading.{HasRead, StopsAt}
 
-pub first_of_cut : (bytes front back : List ℕ) → IsCut 10 bytes front back → lines_of bytes ≡ front ∷ lines_of back
-first_of_cut bytes front back cut = ap lines_of cut.whole ∙ lines_of-cut front back cut.is_first
+pub first_of_cut : (bytes prefix back : List ℕ) → IsCut 10 bytes prefix back → lines_of bytes ≡ prefix ∷ lines_of back
+first_of_cut bytes prefix back cut = ap lines_of cut.whole ∙ lines_of-cut prefix back cut.is_first
 
 pub lone_line : (bytes : List ℕ) → 0 < length bytes → Lacks 10 bytes → lines_of bytes ≡ bytes ∷ []
 lone_line [] some whole = absurd (omega (arith, some))

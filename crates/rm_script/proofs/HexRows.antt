@@ -3,8 +3,8 @@ use Rattle.std.proofs.Common.{◌≡◌, ℕ, ◌+◌, ◌*◌, ◌<◌, ◌≤�
 use Rattle.std.proofs.lemmas.List.{nil_from_length}
 use Rattle.std.specs.List.{AllByRecursion}
 use Rattle.rm_types.specs.declared.rows.TheConstants.{MAX_ROW}
-use Rattle.rm_model.specs.Grammar.{IsWrittenOut}
-use Rattle.rm_model.specs.Texts.{hex_byte, hex}
+use Rattle.rm_script.specs.Grammar.{IsWrittenOut}
+use Rattle.rm_script.specs.Texts.{hex_byte, hex}
 
 abbrev pub AreBytes : List ℕ → Type 0
 AreBytes row = AllByRecursion (λ byte. byte < 256) row
@@ -17,7 +17,7 @@ pub AreBytes-push : (row : List ℕ) (byte : ℕ) → AreBytes row → byte < 25
 AreBytes-push [] byte p q = (q, tt)
 AreBytes-push (b ∷ row) byte p q = (p.0, AreBytes-push row byte p.1 q)
 
--- behind the digits of some bytes stand the digits of others
+-- after the digits of some bytes stand the digits of others
 hex_rest : (bytes row rest : List ℕ) → hex bytes ++ rest ≡ hex row → AreBytes row → (tail : List ℕ) × (rest ≡ hex tail) × AreBytes tail
 hex_rest [] row rest e p = (row, e, p)
 hex_rest (b ∷ bytes) [] rest e p = absurd (cc)

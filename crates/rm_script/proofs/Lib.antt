@@ -1,3 +1,11 @@
+pub mod CutLaws
+pub mod LinesOf
+pub mod Readings
+pub mod Turns
+pub mod WrongTurns
+pub mod GrammarExamples
+pub mod TextLines
+pub mod TextExamples
 pub mod FirstLines
 pub mod FirstTurns
 pub mod HexRows

@@ -3,7 +3,7 @@ use Rattle.std.proofs.Common.{◌≡◌, ℕ, zero, suc, ◌+◌, ◌/◌, ◌%�
 use Rattle.std.proofs.lemmas.Bool.{and_parts, cases_lt, eqb-true}
 use Rattle.std.proofs.lemmas.List.{take_at}
 use Rattle.hex.specs.Hex.{encode_lower, encode_with, lower_digits}
-use Rattle.rm_model.specs.Texts.{hex, hex_digit}
+use Rattle.rm_script.specs.Texts.{hex, hex_digit}
 
 -- whether the first n digits of the table are the right ones
 abbrev are_same : ℕ → Bool
@@ -34,8 +34,8 @@ encode_lower-is (byte ∷ row) bytes =
     let rest = encode_lower-is row (λ k. bytes (suc k)) in
     rw (high, low, rest) refl
 
--- what stands in front of the cut, once the place behind old is written
-pub take-written : (old front digits other rest more : List ℕ) (n : ℕ) → front ≡ old → digits ≡ other → n ≡ length old + length other → take n ((front ++ (digits ++ rest)) ++ more) ≡ old ++ other
-take-written old front digits other rest more n same_front same_digits len =
+-- what stands before the cut, once the place after old is written
+pub take-written : (old prefix digits other rest more : List ℕ) (n : ℕ) → prefix ≡ old → digits ≡ other → n ≡ length old + length other → take n ((prefix ++ (digits ++ rest)) ++ more) ≡ old ++ other
+take-written old prefix digits other rest more n same_front same_digits len =
     let flat : (old ++ (other ++ rest)) ++ more ≡ (old ++ other) ++ (rest ++ more) = simp append_assoc in
     rw (same_front, same_digits, flat) (take_at (old ++ other) (rest ++ more) n (omega (arith, length-append old other)))

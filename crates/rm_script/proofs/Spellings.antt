@@ -3,14 +3,14 @@ use Rattle.std.proofs.Common.{◌≡◌, ◌≢◌, ℕ, ◌^◌, ◌<◌, ◌�
 use Rattle.std.specs.Option.{IsSomeAnd}
 use Rattle.std.proofs.lemmas.Result.{IfOk-weaker}
 use Rattle.rm_types.specs.declared.rows.TheConstants.{MAX_ROW}
-use Rattle.rm_types.specs.declared.lines.Line.{Line}
-use Rattle.rm_types.specs.declared.lines.Line.TheVariants as line
-use Rattle.rm_types.specs.declared.lines.Target.{Target}
-use Rattle.rm_types.specs.declared.lines.Target.TheVariants as target
-use Rattle.rm_model.specs.Grammar.{IsWrittenOut, IsRow, IsTarget, IsLine, IsWrong, name_text}
-use Rattle.rm_model.specs.Texts.{hex_byte, hex}
-use Rattle.rm_model.proofs.Cuts.{same_cut, no_cut, Lacks-decimal, Lacks-hex, Lacks-name_text}
-use Rattle.rm_model.proofs.Readings.{place-cut}
+use Rattle.rm_script.specs.declared.lines.Line.{Line}
+use Rattle.rm_script.specs.declared.lines.Line.TheVariants as line
+use Rattle.rm_script.specs.declared.lines.Target.{Target}
+use Rattle.rm_script.specs.declared.lines.Target.TheVariants as target
+use Rattle.rm_script.specs.Grammar.{IsWrittenOut, IsRow, IsTarget, IsLine, IsWrong, name_text}
+use Rattle.rm_script.specs.Texts.{hex_byte, hex}
+use Rattle.rm_script.proofs.CutLaws.{same_cut, no_cut, Lacks-decimal, Lacks-hex, Lacks-name_text}
+use Rattle.rm_script.proofs.Readings.{place-cut}
 use Rattle.rm_script.specs.Cuts.{IsCut, Lacks}
 
 -- a target is spelled with a dot exactly where it is a row id
@@ -54,7 +54,7 @@ unwritten text r whole h = IfOk-weaker r _ _ (λ found. none_weaker found (no_wr
 apart : (text other : List ℕ) → get_or text 0 0 ≢ get_or other 0 0 → text ≡ other → ⊥
 apart text other differ e = differ (ap (λ t. get_or t 0 0) e)
 
--- behind `insert ` stands an insert or no line
+-- after `insert ` stands an insert or no line
 pub no_insert : (text : List ℕ) → ((name : ℕ) (row spelling : List ℕ) → name < 26 → IsRow row spelling → text ≡ name_text name ++ 32 ∷ spelling → ⊥) → IsWrong (codes "insert " ++ text)
 no_insert text none line.Begin p = apart _ _ (λ e. omega (arith, e)) p
 no_insert text none (line.Insert name row) p = none name row p.1.0 p.0 p.1.1 (ap (drop 7) p.1.2)

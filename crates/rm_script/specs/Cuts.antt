@@ -7,6 +7,6 @@ abbrev pub Lacks : ℕ → List ℕ → Type 0
 Lacks byte text = AllByRecursion (λ other. other ≢ byte) text
 
 -- the text is cut in two at the first such byte
-pub record IsCut (byte : ℕ) (text front back : List ℕ) : Type 0 where
-  pub whole : text ≡ front ++ byte ∷ back
-  pub is_first : Lacks byte front
+pub record IsCut (byte : ℕ) (text prefix back : List ℕ) : Type 0 where
+  pub whole : text ≡ prefix ++ byte ∷ back
+  pub is_first : Lacks byte prefix

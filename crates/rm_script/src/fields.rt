@@ -1,12 +1,13 @@
 //! The numbers, names and places in a line.
 
 ghost use Rattle.std.specs.Prelude.{◌≡◌, ℕ, ◌^◌, ◌<◌, ◌≤◌, decimal, IfSome, IfNone};
-ghost use Rattle.rm_types.specs.declared.lines.Target.{Target};
-ghost use Rattle.rm_model.specs.Grammar.{IsTarget, name_text};
+ghost use Rattle.rm_script.specs.declared.lines.Target.{Target};
+ghost use Rattle.rm_script.specs.Grammar.{IsTarget, name_text};
 ghost use Rattle.rm_script.specs.Cuts.{IsCut};
 
 use crate::cuts::cut;
-use rm_types::{MAX_ROW, Name, Rid, Target};
+use crate::lines::{Name, Target};
+use rm_types::{MAX_ROW, Rid};
 
 /// The number that the text spells in decimal, without a leading zero.
 pub fn number(text: &[u8]) -> Option<u32>
@@ -21,7 +22,7 @@ pub fn number(text: &[u8]) -> Option<u32>
     str::from_utf8(text).ok()?.parse().ok()
 }
 
-/// The number of bytes that the text spells, where a row may have so many.
+/// The number of bytes that the text spells, if a row may have that many.
 pub(crate) fn row_length(text: &[u8]) -> Option<usize>
     ensures some { IfSome result (λ n. (n ≤ MAX_ROW) × (text.now ≡ decimal n)) }
     ensures none { IfNone result ((n : ℕ) → n ≤ MAX_ROW → text.now ≡ decimal n → ⊥) }

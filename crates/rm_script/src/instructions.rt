@@ -1,13 +1,14 @@
 //! One line of a script.
 
 ghost use Rattle.std.specs.Prelude.{◌≡◌, ◌++◌, codes, IfOk, IfSome, IfNone};
-ghost use Rattle.rm_types.specs.declared.lines.Line.{Line};
-ghost use Rattle.rm_model.specs.Grammar.{IsLine, IsWrong};
+ghost use Rattle.rm_script.specs.declared.lines.Line.{Line};
+ghost use Rattle.rm_script.specs.Grammar.{IsLine, IsWrong};
 
 use crate::cuts::cut;
 use crate::fields::{name_of, target_of};
+use crate::lines::Line;
 use crate::rows::row_of;
-use rm_types::{Line, NoMemory};
+use rm_types::NoMemory;
 use std::alloc::Global;
 
 const BEGIN: &[u8] = b"begin";

@@ -1,14 +1,15 @@
 //! Reading a whole script.
 
 ghost use Rattle.std.specs.Prelude.{◌≡◌, ◌==◌, ◌<◌, ◌≤◌, [], ◌∷◌, length, count_by, IfOk, IfErr, IfSome, IfNone};
-ghost use Rattle.rm_model.specs.Grammar.{IsPlain, IsTurns, IsWithinLimits, lines_of};
+ghost use Rattle.rm_script.specs.Grammar.{IsPlain, IsTurns, IsWithinLimits, lines_of};
 ghost use Rattle.rm_script.specs.Reading.{HasRead, LacksFirst, StopsAt};
 ghost use Rattle.rm_script.specs.Refusals.{HasTooMuch, Refuses, RefusesTurns};
 
 use crate::cuts::cut;
 use crate::instructions::line_of;
+use crate::lines::{Line, MAX_BYTES, MAX_LINES, Script, Which};
 use crate::refused::ScriptRefused;
-use rm_types::{Line, MAX_BYTES, MAX_LINES, NoMemory, Script, Which};
+use rm_types::NoMemory;
 use std::alloc::Global;
 
 const SESSION: &[u8] = b"session 1";
@@ -39,15 +40,15 @@ pub fn read_turns(alloc: Global, bytes: &[u8]) -> Result<Script, ScriptRefused>
     ensures refused { IfErr result (RefusesTurns bytes.now) }
 {
     let count = count_within_limits(bytes)?;
-    let Some(rest) = behind_line(SESSION, bytes) else {
+    let Some(rest) = after_line(SESSION, bytes) else {
         return Err(ScriptRefused::Bad { line: 1 });
     };
     let (lines, rest) = read_lines(alloc, rest, count)?;
     let number = lines.len() as u64;
-    let Some(rest) = behind_line(TURNS, rest) else {
+    let Some(rest) = after_line(TURNS, rest) else {
         return Err(ScriptRefused::Bad { line: number + 2 });
     };
-    let Some(rest) = behind_line(FINISH, rest) else {
+    let Some(rest) = after_line(FINISH, rest) else {
         return Err(ScriptRefused::Bad { line: number + 3 });
     };
     if !rest.is_empty() {
@@ -91,7 +92,7 @@ fn line_ends(bytes: &[u8]) -> usize
     bytes.iter().filter(|byte| **byte == b'\n').count()
 }
 
-/// The first line, without its end, and what stands behind it, or `None` where nothing is left.
+/// The first line, without its end, and what stands after it, or `None` where nothing is left.
 fn first_line(bytes: &[u8]) -> Option<(&[u8], &[u8])>
     ensures some { IfSome result (λ parts. lines_of bytes.now ≡ parts.0.now ∷ lines_of parts.1.now) }
     ensures shorter { IfSome result (λ parts. length parts.1.now < length bytes.now) }
@@ -103,8 +104,8 @@ fn first_line(bytes: &[u8]) -> Option<(&[u8], &[u8])>
     Some(cut(b'\n', bytes).unwrap_or((bytes, &[])))
 }
 
-/// What stands behind the first line, where that is `line`.
-fn behind_line<'a>(line: &[u8], bytes: &'a [u8]) -> Option<&'a [u8]>
+/// What stands after the first line, where that is `line`.
+fn after_line<'a>(line: &[u8], bytes: &'a [u8]) -> Option<&'a [u8]>
     ensures some { IfSome result (λ rest. lines_of bytes.now ≡ line.now ∷ lines_of rest.now) }
     ensures none { IfNone result (LacksFirst line.now (lines_of bytes.now)) }
 {

@@ -3,16 +3,20 @@
 ghost use Rattle.std.specs.Prelude.{◌≡◌};
 ghost use Rattle.rm_script.specs.declared.refused.ScriptRefused.TheVariants as refused;
 
-use rm_types::Which;
+use crate::lines::Which;
 use std::alloc::{AllocError, AllocFailed};
+use thiserror::Error;
 
-/// Why bytes are no script in the form that was wanted.
-#[derive(Clone, Copy, Debug, PartialEq, Eq)]
+/// Why bytes are no script in the form that was asked for.
+#[derive(Clone, Copy, Debug, PartialEq, Eq, Error)]
 pub enum ScriptRefused {
     /// That line, from 1, is the first that is wrong, or that is lacking where the script ends too early.
+    #[error("line {line} of the script is wrong or lacking")]
     Bad { line: u64 },
-    /// The script has too much of that.
+    /// The script has more of that than its limit.
+    #[error("the script has too many {which}")]
     Limit { which: Which },
+    #[error("out of memory")]
     NoMemory,
 }
 

@@ -1,8 +1,8 @@
 //! The spellings of rows.
 
 ghost use Rattle.std.specs.Prelude.{◌≡◌, ℕ, ◌<◌, List, [], ◌∷◌, IfOk, IfSome, IfNone};
-ghost use Rattle.rm_model.specs.Texts.{hex_byte, hex_digit};
-ghost use Rattle.rm_model.specs.Grammar.{IsRow, IsWrittenOut};
+ghost use Rattle.rm_script.specs.Texts.{hex_byte, hex_digit};
+ghost use Rattle.rm_script.specs.Grammar.{IsRow, IsWrittenOut};
 
 use crate::cuts::cut;
 use crate::fields::row_length;

@@ -1,5 +1,5 @@
 use super::*;
-use rm_types::{Line, MAX_BYTES, MAX_LINES, Target, Which};
+use crate::lines::{Line, MAX_BYTES, MAX_LINES, Target, Which};
 use std::test::Fail;
 
 /// Every form of line, and the bounds of each number.

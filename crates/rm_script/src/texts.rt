@@ -1,7 +1,7 @@
-//! How replies, and what is told beside them, are written.
+//! How replies and the other lines that are printed are written.
 
 ghost use Rattle.std.specs.Prelude.{◌≡◌, ◌≤◌, ◌++◌, codes, decimal, length, take, OnOk, OnErr, vec_len};
-ghost use Rattle.rm_model.specs.Texts.{created_line, hex, place, restart_line, shown, text_of, turn_line, unfinished_line};
+ghost use Rattle.rm_script.specs.Texts.{created_line, hex, place, restart_line, shown, text_of, turn_line, unfinished_line};
 
 use itoa::Buffer;
 use rm_types::{MAX_ROW, NoMemory, Reply, Rid, TxnId};
@@ -16,7 +16,7 @@ pub fn reply_text(reply: &Reply, out: &mut Vec<u8>) -> Result<(), NoMemory>
     whole_or_nothing(written, start, out)
 }
 
-/// Appends a reply's line of `turns`, with the session's number in front. `NoMemory` leaves `out` as it was.
+/// Appends a reply's line of `turns`, after its session's number. `NoMemory` leaves `out` as it was.
 pub fn turn_text(session: u8, reply: &Reply, out: &mut Vec<u8>) -> Result<(), NoMemory>
     ensures ok { OnOk result (out.new.items ≡ out.old.items ++ turn_line session reply.now) }
     ensures err { OnErr result (out.new.items ≡ out.old.items) }
@@ -36,7 +36,7 @@ pub fn unfinished_text(session: u8, txn: TxnId, out: &mut Vec<u8>) -> Result<(),
     whole_or_nothing(written, start, out)
 }
 
-/// Appends the line of a volume that was created, with so many pages. `NoMemory` leaves `out` as it was.
+/// Appends the line of a volume that was created, with this many pages. `NoMemory` leaves `out` as it was.
 pub fn created_text(pages: u32, out: &mut Vec<u8>) -> Result<(), NoMemory>
     ensures ok { OnOk result (out.new.items ≡ out.old.items ++ created_line pages) }
     ensures err { OnErr result (out.new.items ≡ out.old.items) }
@@ -62,7 +62,7 @@ pub fn restart_text(
     whole_or_nothing(written, start, out)
 }
 
-// Where a text was not written whole, takes back what stands of it behind the first `start` bytes.
+// Takes back what was written after the first `start` bytes, where a text was not written whole.
 fn whole_or_nothing(
     written: Result<(), NoMemory>,
     start: usize,
@@ -78,10 +78,10 @@ fn whole_or_nothing(
     written
 }
 
-// On an error the line may stand in part behind what `out` had.
+// On an error the line may stand in part after what `out` had.
 fn append_reply(reply: &Reply, out: &mut Vec<u8>) -> Result<(), NoMemory>
     ensures ok { OnOk result (out.new.items ≡ out.old.items ++ text_of reply.now) }
-    ensures front { take (vec_len out.old) out.new.items ≡ out.old.items }
+    ensures prefix { take (vec_len out.old) out.new.items ≡ out.old.items }
 {
     match reply {
         Reply::Began(id) => append_begin(*id, out)?,
@@ -99,7 +99,7 @@ fn append_reply(reply: &Reply, out: &mut Vec<u8>) -> Result<(), NoMemory>
 
 fn append_turn(session: u8, reply: &Reply, out: &mut Vec<u8>) -> Result<(), NoMemory>
     ensures ok { OnOk result (out.new.items ≡ out.old.items ++ turn_line session reply.now) }
-    ensures front { take (vec_len out.old) out.new.items ≡ out.old.items }
+    ensures prefix { take (vec_len out.old) out.new.items ≡ out.old.items }
 {
     append_number(u64::from(session), out)?;
     out.push(b' ')?;
@@ -108,7 +108,7 @@ fn append_turn(session: u8, reply: &Reply, out: &mut Vec<u8>) -> Result<(), NoMe
 
 fn append_unfinished(session: u8, txn: TxnId, out: &mut Vec<u8>) -> Result<(), NoMemory>
     ensures ok { OnOk result (out.new.items ≡ out.old.items ++ unfinished_line session txn.0) }
-    ensures front { take (vec_len out.old) out.new.items ≡ out.old.items }
+    ensures prefix { take (vec_len out.old) out.new.items ≡ out.old.items }
 {
     append_number(u64::from(session), out)?;
     out.extend_from_slice(b" unfinished ")?;
@@ -119,7 +119,7 @@ fn append_unfinished(session: u8, txn: TxnId, out: &mut Vec<u8>) -> Result<(), N
 
 fn append_created(pages: u32, out: &mut Vec<u8>) -> Result<(), NoMemory>
     ensures ok { OnOk result (out.new.items ≡ out.old.items ++ created_line pages) }
-    ensures front { take (vec_len out.old) out.new.items ≡ out.old.items }
+    ensures prefix { take (vec_len out.old) out.new.items ≡ out.old.items }
 {
     out.extend_from_slice(b"created ")?;
     append_number(u64::from(pages), out)?;
@@ -134,7 +134,7 @@ fn append_restart(
     out: &mut Vec<u8>,
 ) -> Result<(), NoMemory>
     ensures ok { OnOk result (out.new.items ≡ out.old.items ++ restart_line records applied undone) }
-    ensures front { take (vec_len out.old) out.new.items ≡ out.old.items }
+    ensures prefix { take (vec_len out.old) out.new.items ≡ out.old.items }
 {
     out.extend_from_slice(b"records ")?;
     append_number(records, out)?;
@@ -148,7 +148,7 @@ fn append_restart(
 
 fn append_begin(id: TxnId, out: &mut Vec<u8>) -> Result<(), NoMemory>
     ensures ok { OnOk result (out.new.items ≡ out.old.items ++ (codes "begin " ++ decimal id.0 ++ codes "\n")) }
-    ensures front { take (vec_len out.old) out.new.items ≡ out.old.items }
+    ensures prefix { take (vec_len out.old) out.new.items ≡ out.old.items }
 {
     out.extend_from_slice(b"begin ")?;
     append_number(u64::from(id.0), out)?;
@@ -158,7 +158,7 @@ fn append_begin(id: TxnId, out: &mut Vec<u8>) -> Result<(), NoMemory>
 
 fn append_inserted(rid: Rid, out: &mut Vec<u8>) -> Result<(), NoMemory>
     ensures ok { OnOk result (out.new.items ≡ out.old.items ++ (codes "inserted " ++ place rid ++ codes "\n")) }
-    ensures front { take (vec_len out.old) out.new.items ≡ out.old.items }
+    ensures prefix { take (vec_len out.old) out.new.items ≡ out.old.items }
 {
     out.extend_from_slice(b"inserted ")?;
     append_number(u64::from(rid.page), out)?;
@@ -180,7 +180,7 @@ fn append_number(number: u64, out: &mut Vec<u8>) -> Result<(), NoMemory>
 fn append_row(row: &[u8], out: &mut Vec<u8>) -> Result<(), NoMemory>
     requires { length row.now ≤ MAX_ROW }
     ensures ok { OnOk result (out.new.items ≡ out.old.items ++ (codes "row " ++ shown row.now ++ codes "\n")) }
-    ensures front { take (vec_len out.old) out.new.items ≡ out.old.items }
+    ensures prefix { take (vec_len out.old) out.new.items ≡ out.old.items }
 {
     out.extend_from_slice(b"row ")?;
     if row.is_empty() {

@@ -6,14 +6,11 @@ use Rattle.rm_types.specs.declared.operations.Op.{Op}
 use Rattle.rm_types.specs.declared.operations.Reply.{Reply}
 use Rattle.rm_types.specs.declared.operations.Reply.TheVariants as reply
 use Rattle.rm_model.specs.Pages.{PageValue}
-use Rattle.rm_model.specs.Object.{IsOutside, MayReply}
-use Rattle.rm_model.specs.Session.{page_at, rows_of, set_row, LacksRoom, IsPlaceFor, IsInside, Core, Comes}
+use Rattle.rm_model.specs.Object.{IsOutside}
+use Rattle.rm_model.specs.Files.{page_at, rows_of, set_row}
+use Rattle.rm_session.specs.Session.{LacksRoom, IsPlaceFor, IsInside, Core, Comes, MayDraw}
 
--- the slots of each page
-abbrev pub slots_of : List PageValue → List (List Slot)
-slots_of pages = map (λ page. page.slots) pages
-
--- no page has room for a row of so many bytes
+-- no page has room for a row of `len` bytes
 abbrev pub IsFull : List (List Slot) → ℕ → Type 0
 IsFull pages len = (page : ℕ) → page < length pages → LacksRoom (page_at pages page) len
 
@@ -32,5 +29,5 @@ Reads pages rid other = ⊥
 
 -- a reply that the one-thread object may give and that comes, and the core after it
 pub record Draws (old : Core) (asked : Op) (told : Reply) (new : Core) : Type 0 where
-  pub object : MayReply (length old.pages) (rows_of old.pages) asked told (rows_of new.pages)
+  pub object : MayDraw (length old.pages) (rows_of old.pages) asked told (rows_of new.pages)
   pub comes : Comes old asked told new

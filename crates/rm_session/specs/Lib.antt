@@ -1,1 +1,3 @@
+pub mod Session
+pub mod Laws
 pub mod Answers

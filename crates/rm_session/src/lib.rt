@@ -1,19 +1,23 @@
 //! One session over a file of pages in memory: it does a line at a time, and answers its reply.
 //!
-//! Every turn is one step of a run as rm_model defines it (`Step`). The pages are all that the session
-//! knows of its rows, and each row stands where its insert was told. There are fewer than 2^32 pages, so
+//! Every turn is one step of a run (`Step`). The pages are all that the session
+//! knows of its rows, and each row stands where its insert replied. There are fewer than 2^32 pages, so
 //! that a row id has a number for each. A turn that lacks memory leaves the session as it was.
 #![tactic(auto)]
 
+mod laws;
 mod rows;
 
 ghost use Rattle.std.specs.Prelude.{◌≡◌, ℕ, ◌+◌, ◌<◌, ◌≤◌, ◌^◌, length, IfOk, OnErr, MatchBool, false};
 ghost use Rattle.rm_types.specs.declared.rows.TheConstants.{MAX_ROW};
-ghost use Rattle.rm_model.specs.Session.{State, Step, IsFirstWithRoom, names_after, fresh, opened};
-ghost use Rattle.rm_session.specs.Answers.{slots_of, Draws, IsFull};
+ghost use Rattle.rm_session.specs.Session.{State, Step, IsFirstWithRoom, names_after, fresh, opened};
+ghost use Rattle.rm_model.specs.Files.{slots_of};
+ghost use Rattle.rm_session.specs.Answers.{Draws, IsFull};
 
-use rm_page::Page;
-use rm_types::{Line, Lsn, Names, NoMemory, Op, Reply, Rid, Row, TxnId};
+pub use laws::{a_script_has_one_run, every_script_runs};
+use rm_page::{Page, empty_pages};
+use rm_script::{Line, Names};
+use rm_types::{Lsn, NoMemory, Op, Reply, Rid, Row, TxnId};
 use std::alloc::Global;
 use std::marker::Model;
 
@@ -43,7 +47,7 @@ impl Session {
     pub fn new(alloc: Global, pages: u32) -> Result<Session, NoMemory>
         ensures { IfOk result (λ session. session ≡ fresh pages) }
     {
-        Ok(Session::over(rows::empty_pages(alloc, pages)?, 1))
+        Ok(Session::over(empty_pages(alloc, pages)?, 1))
     }
 
     /// A session over these pages, before its first transaction, which gets the id `next`.
@@ -73,7 +77,7 @@ impl Session {
         self.next
     }
 
-    /// Whether a page has room for a row of so many bytes.
+    /// Whether a page has room for a row of `len` bytes.
     pub fn has_place(&self, len: usize) -> bool
         requires { len ≤ MAX_ROW }
         ensures { MatchBool result ((page : ℕ) × IsFirstWithRoom self.now.core.pages len page) (IsFull self.now.core.pages len) }

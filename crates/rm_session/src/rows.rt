@@ -1,26 +1,16 @@
 //! The rows of a file of pages in memory.
 
-ghost use Rattle.std.specs.Prelude.{◌≡◌, ℕ, ◌^◌, ◌+◌, ◌<◌, ◌≤◌, ◌↔◌, [], length, replicate, option_copied, IfOk, OnErr, IsTrue, IfSome, MatchOption};
+ghost use Rattle.std.specs.Prelude.{◌≡◌, ◌^◌, ◌+◌, ◌<◌, ◌≤◌, ◌↔◌, length, option_copied, IfOk, OnErr, IsTrue, IfSome, MatchOption};
 ghost use Rattle.rm_types.specs.declared.rows.TheConstants.{MAX_ROW};
-ghost use Rattle.rm_model.specs.Session.{HasRoom, IsFirstWithRoom, IsInside, rows_of};
-ghost use Rattle.rm_session.specs.Answers.{slots_of, Inserts, IsFull, Reads};
+ghost use Rattle.rm_model.specs.Files.{rows_of, slots_of};
+ghost use Rattle.rm_session.specs.Session.{HasRoom, IsFirstWithRoom, IsInside};
+ghost use Rattle.rm_session.specs.Answers.{Inserts, IsFull, Reads};
 
 use rm_page::Page;
 use rm_types::{CAPACITY, Lsn, MAX_SLOT, NoMemory, Reply, Rid, Row, SLOT_ENTRY};
 use std::alloc::Global;
 
-// So many pages without rows.
-pub fn empty_pages(alloc: Global, count: u32) -> Result<Vec<Page>, NoMemory>
-    ensures { IfOk result (λ pages. slots_of pages.items ≡ replicate count []) }
-{
-    let mut pages = Vec::with_capacity(alloc, count as usize)?;
-    for _page in 0..count {
-        pages.push_reserved(Page::new(alloc));
-    }
-    Ok(pages)
-}
-
-// Whether a row of so many bytes fits behind the directory.
+// Whether a row of `len` bytes fits after the directory.
 fn has_room(page: &Page, len: usize) -> bool
     requires { len ≤ MAX_ROW }
     ensures { IsTrue result ↔ HasRoom page.now.slots len }
@@ -42,7 +32,7 @@ pub fn first_with_room(pages: &[Page], len: usize) -> Option<u32>
     None
 }
 
-// Inserts the row behind the directory of the first page that has room. An error leaves the pages as they were.
+// Inserts the row after the directory of the first page that has room. An error leaves the pages as they were.
 pub fn insert(pages: &mut [Page], row: &Row, lsn: Lsn) -> Result<Reply, NoMemory>
     requires { length pages.old < 2 ^ 32 }
     ensures ok { IfOk result (λ reply. Inserts (slots_of pages.old) row.now reply (slots_of pages.new)) }

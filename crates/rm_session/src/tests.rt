@@ -1,7 +1,8 @@
 ghost use Rattle.std.specs.Prelude.{◌+◌, ◌<◌, ◌≤◌, ◌^◌, IfOk};
 
 use super::*;
-use rm_types::{MAX_ROW, Name, Target};
+use rm_script::{Name, Target};
+use rm_types::MAX_ROW;
 use std::test::Fail;
 
 // The reply to a line, as `Debug` shows it.

@@ -1,4 +1,2 @@
-pub mod Bindings
-pub mod Lines
 pub mod Rising
 pub mod Formats

@@ -1,3 +1,5 @@
+use std::fmt;
+
 /// The five areas of a volume.
 #[derive(Clone, Copy, Debug, PartialEq, Eq)]
 pub enum Area {
@@ -6,4 +8,16 @@ pub enum Area {
     Data,
     Space,
     Copy,
+}
+
+impl fmt::Display for Area {
+    fn fmt<W: fmt::Write>(&self, f: &mut fmt::Formatter<W>) -> fmt::Result {
+        f.write_str(match self {
+            Area::Master => "master",
+            Area::Log => "log",
+            Area::Data => "data",
+            Area::Space => "space",
+            Area::Copy => "copy",
+        })
+    }
 }

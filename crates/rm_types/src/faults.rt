@@ -6,20 +6,25 @@ ghost use Rattle.rm_types.specs.declared.faults.StoreFault.TheVariants.{Fault as
 use crate::areas::Area;
 use crate::memory::NoMemory;
 use std::alloc::{AllocError, AllocFailed};
+use thiserror::Error;
 
 /// A fault of the volume.
-#[derive(Clone, Copy, Debug, PartialEq, Eq)]
+#[derive(Clone, Copy, Debug, PartialEq, Eq, Error)]
 pub enum Fault {
     /// That area of the volume failed.
+    #[error("area {area} of the volume failed: check the device, then open the volume again")]
     Volume { area: Area },
-    /// What stands at that place of the area, in bytes, is not what belongs there.
+    /// The area is damaged at that byte.
+    #[error("area {area} of the volume is damaged at byte {at}: restore it from a copy")]
     Damaged { area: Area, at: u64 },
 }
 
-/// A fault of the volume, or want of memory.
-#[derive(Clone, Copy, Debug, PartialEq, Eq)]
+/// A fault of the volume, or out of memory.
+#[derive(Clone, Copy, Debug, PartialEq, Eq, Error)]
 pub enum StoreFault {
+    #[error("{0}")]
     Fault(Fault),
+    #[error("out of memory")]
     NoMemory,
 }
 

@@ -1,4 +1,4 @@
-//! What a session asks of the record manager, and what it is told.
+//! What a session asks of the record manager, and what it replies.
 
 use crate::numbers::{Rid, TxnId};
 use crate::rows::Row;

@@ -65,14 +65,14 @@ impl Places {
         }
     }
 
-    /// Whether a place with this number may come behind them: it is greater than theirs, and they are not full.
+    /// Whether a place with this number may come after them: it is greater than theirs, and they are not full.
     pub fn may_push(&self, number: u32) -> bool
         ensures { IsTrue result ↔ MayFollow self.now number }
     {
         self.entries.len() < MAX_PLACES && self.are_below(number)
     }
 
-    /// Puts a place behind them.
+    /// Puts a place after them.
     ///
     /// # Errors
     ///

@@ -44,7 +44,7 @@ impl Row {
         Ok(Row::new(Vec::from_slice(alloc, bytes)?))
     }
 
-    /// A row of one byte, so many times over.
+    /// A row of one byte, repeated `count` times.
     pub fn repeated(alloc: Global, byte: u8, count: usize) -> Result<Row, NoMemory>
         requires { count ≤ MAX_ROW }
         ensures { IfOk result (λ row. row ≡ replicate count byte) }

@@ -1,7 +1,7 @@
 use Rattle.std.proofs.Common.{List, Option, length}
 use Rattle.std.specs.Prelude.{slice_get}
 use Rattle.rm_types.specs.declared.areas.Area.{Area}
-use Rattle.rm_types.specs.declared.lines.Line.{Line}
+use Rattle.rm_script.specs.declared.lines.Line.{Line}
 use Rattle.rm_types.specs.declared.operations.Reply.{Reply}
 use Rattle.rm_outside.specs.Faults.{Rises}
 use Rattle.rm_command.specs.Turning.{LeavesRun}

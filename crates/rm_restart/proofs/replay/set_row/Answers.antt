@@ -1,5 +1,5 @@
 use Rattle.std.proofs.Common.{arith}
-use Rattle.rm_restart.proofs.Pages.{set_row_is}
+use Rattle.rm_model.proofs.FileLaws.{set_row_is}
 use Rattle.rm_restart.proofs.replay.set_row.Goals as goal
 
 pub returns-clause-ok : goal.returns-clause-ok

@@ -1,7 +1,7 @@
 use Rattle.std.proofs.Common.{◌≡◌, List, ℕ, ◌++◌, codes, Some, IfOk, IfSome, subst, sym}
 use Rattle.std.proofs.lemmas.Bool.Decides.{Decides-eqb}
 use Rattle.std.proofs.lemmas.Slice.Eq.{strip_prefix_is}
-use Rattle.rm_model.specs.Grammar.{IsLine}
+use Rattle.rm_script.specs.Grammar.{IsLine}
 use Rattle.rm_script.proofs.Spellings.{read_of}
 use Rattle.rm_script.proofs.instructions.line_of.Goals as goal
 

@@ -1,6 +1,6 @@
 use Rattle.std.proofs.Common.{arith}
 use Rattle.std.proofs.lemmas.Bool.Decides.{nat_tests}
-use Rattle.rm_model.proofs.LinesOf.{length-lines_of}
+use Rattle.rm_script.proofs.LinesOf.{length-lines_of}
 use Rattle.rm_script.proofs.reading.line_count.Goals as goal
 
 pub returns-then-last-eq10 : goal.returns-then-last-eq10

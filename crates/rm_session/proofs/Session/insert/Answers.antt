@@ -2,8 +2,9 @@ use Rattle.std.proofs.Common.{◌≡◌, ◌∙◌, ◌++◌, length, take, drop
 use Rattle.std.proofs.lemmas.List.{with_items_is}
 use Rattle.std.proofs.lemmas.Result.{IfOk-weaker}
 use Rattle.rm_types.specs.declared.operations.Op.TheVariants as op
-use Rattle.rm_model.specs.Session.{Core}
-use Rattle.rm_session.specs.Answers.{slots_of, Inserts, Draws}
+use Rattle.rm_session.specs.Session.{Core}
+use Rattle.rm_model.specs.Files.{slots_of}
+use Rattle.rm_session.specs.Answers.{Inserts, Draws}
 use Rattle.rm_session.proofs.Pages.{inserts_draws}
 use Rattle.rm_session.proofs.Session.insert.Goals as goal
 

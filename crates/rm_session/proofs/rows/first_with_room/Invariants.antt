@@ -1,6 +1,6 @@
 use Rattle.std.proofs.Common.{ℕ, ◌<◌}
-use Rattle.rm_model.specs.Session.{page_at, LacksRoom}
-use Rattle.rm_session.specs.Answers.{slots_of}
+use Rattle.rm_model.specs.Files.{page_at, slots_of}
+use Rattle.rm_session.specs.Session.{LacksRoom}
 use Rattle.rm_session.proofs.rows.first_with_room.Given as goal
 
 -- each page so far lacks room

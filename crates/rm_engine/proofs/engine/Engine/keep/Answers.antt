@@ -1,10 +1,11 @@
 use Rattle.std.proofs.Common.{◌≡◌, ◌∙◌, ℕ, ◌+◌, ◌-◌, ◌^◌, ◌≤◌, ◌<◌, refl, sym, ap, subst, inl, arith}
 use Rattle.rm_types.specs.declared.numbers.TxnId.{TxnId}
-use Rattle.rm_types.specs.declared.lines.Line.{Line}
+use Rattle.rm_script.specs.declared.lines.Line.{Line}
 use Rattle.rm_wal.specs.Tails.{end_of}
 use Rattle.rm_engine.specs.declared.room.TheConstants.{OWED}
 use Rattle.rm_outside.specs.Moments.{started, weaker}
-use Rattle.rm_model.specs.Session.{Core, rows_of}
+use Rattle.rm_model.specs.Files.{rows_of}
+use Rattle.rm_session.specs.Session.{Core}
 use Rattle.rm_engine.specs.Numbers.{IsReady, HasRoom, txn_of_next}
 use Rattle.rm_engine.proofs.Flushes.{holds_now, at_begun, at_inserted, tails_closing, holds_in_commit, at_committed}
 use Rattle.rm_engine.proofs.Leaves.{both}

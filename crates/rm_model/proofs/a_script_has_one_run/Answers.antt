@@ -1,5 +1,0 @@
-use Rattle.rm_model.proofs.Runs as runs
-use Rattle.rm_model.proofs.a_script_has_one_run.Goals as goal
-
-pub returns : goal.returns
-returns c = runs.a_script_has_one_run
