@@ -7,7 +7,7 @@ pub mod SoundLaws
 pub mod FreshLaws
 pub mod RedoneLaws
 pub mod GateLaws
-pub mod PastCopyLaws
+pub mod PastLaws
 mod ExampleLog
 mod Examples
 mod WholeExamples

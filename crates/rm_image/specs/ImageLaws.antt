@@ -14,14 +14,14 @@ use Rattle.rm_master.specs.Slots.{HasFields}
 use Rattle.rm_history.specs.Logs.{Batch, HasLog}
 use Rattle.rm_history.specs.Acts.{Act, Listing, History, changes, undoes, enters, commits, ends, marks}
 use Rattle.rm_history.specs.Contents.{page_of, version_of}
-use Rattle.rm_history.specs.Batched.{acts_of_batches, batch_of, IsGate}
+use Rattle.rm_history.specs.Batched.{acts_of_batches, batch_of, IsGate, AreBelow}
 use Rattle.rm_history.specs.Rules.{IsInOrder}
 use Rattle.rm_block.specs.Blocks.{block_at, IsDataBlock, IsInventoryBlock, space_place}
 use Rattle.rm_image.specs.Starts.{Start, format_of, size_of}
 use Rattle.rm_image.specs.Checkpoints.{HasCheckpoint, IsRedoOfPage, IsRedoOfBlock, IsRedoPoint}
 use Rattle.rm_image.specs.Copies.{copied_page, copied_block, IsCopy}
 use Rattle.rm_image.specs.Redo.{page_redone, entries_redone}
-use Rattle.rm_image.specs.Standing.{StandsFor}
+use Rattle.rm_image.specs.Standing.{StandsFor, HoldsPage}
 use Rattle.rm_image.specs.Laws.{IsUp}
 use Rattle.rm_image.specs.Whole.{IsLogSound, IsSoundBy, IsSoundWith, IsWholeWith, IsWhole}
 
@@ -81,6 +81,11 @@ abbrev pub PagesPastTheCopyAreEmpty : Type 0
 PagesPastTheCopyAreEmpty = (area : Bytes) (format : Format) (batches : List Batch) (half start n page : ℕ)
     → IsInOrder (acts_of_batches batches) → IsCopy area format batches half start n → n ≤ page
     → StandsFor (batch_of batches) (acts_of_batches batches) page 0 [] start
+
+-- so is each page that the file lacks
+abbrev pub PagesPastTheFileAreEmpty : Type 0
+PagesPastTheFileAreEmpty = (start : Start) (batches : List Batch) (page : ℕ) → AreBelow start.pages (acts_of_batches batches)
+    → size_of start batches ≤ page → HoldsPage page 0 [] (acts_of_batches batches)
 
 -- the record is of a transaction
 abbrev pub IsOfTxn : Act → Type 0

@@ -2,7 +2,7 @@
 
 ghost use Rattle.rm_types.specs.declared.formats.Format.{Format};
 ghost use Rattle.rm_history.specs.Acts.{History};
-ghost use Rattle.rm_image.specs.ImageLaws.{CheckpointsAreOne, RedoPointIsLeast, WholeImagesAreRedone, CheckpointsAreRecords, PagesPastTheCopyAreEmpty, LogImagesAreSound, RedoBeginsAtGates, SoundImagesAreOne, CopiesAreOfTheFile, FreshIsSound, FreshIsWhole};
+ghost use Rattle.rm_image.specs.ImageLaws.{CheckpointsAreOne, RedoPointIsLeast, WholeImagesAreRedone, CheckpointsAreRecords, PagesPastTheCopyAreEmpty, PagesPastTheFileAreEmpty, LogImagesAreSound, RedoBeginsAtGates, SoundImagesAreOne, CopiesAreOfTheFile, FreshIsSound, FreshIsWhole};
 
 /// What is asked of the history of a sound log.
 pub trait HistoryRules {
@@ -30,6 +30,11 @@ pub fn redo_begins_at_gates<R: HistoryRules>()
 /// An empty block stands for each page that a copy lacks.
 pub fn pages_past_the_copy_are_empty()
     ensures { PagesPastTheCopyAreEmpty }
+{}
+
+/// No record of a sound log is on a page that the file lacks: it is empty.
+pub fn pages_past_the_file_are_empty()
+    ensures { PagesPastTheFileAreEmpty }
 {}
 
 /// From the redo point on redo makes of each block of a whole image what the log says; while the file is being

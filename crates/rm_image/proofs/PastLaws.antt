@@ -1,20 +1,21 @@
--- An empty block stands for a page that a copy lacks: no record on it is of a batch from before the copy's start.
+-- An empty block stands for a page that a copy lacks, and a page that the file lacks is empty.
 use Rattle.std.proofs.Common.{◌≡◌, inl, inr, ℕ, ◌+◌, ◌<◌, ◌≤◌, Bool, cond, nat_lt, List, [], ◌∷◌, length}
-use Rattle.std.proofs.Common.{refl, sym, subst, arith}
+use Rattle.std.proofs.Common.{refl, ◌∙◌, sym, subst, arith}
 use Rattle.std.proofs.lemmas.Bool.{cases_lt, lt-ltb, le-ltb, cond_both}
 use Rattle.std.specs.List.{AllByRecursion}
 use Rattle.rm_history.specs.declared.TheConstants.{BATCH_HEADER}
 use Rattle.rm_history.specs.Acts.{Act, History, changes, undoes, act_at, lsn_of}
 use Rattle.rm_history.specs.Logs.{Batch, gate_of}
-use Rattle.rm_history.specs.Batched.{acts_after, acts_of_batches, batch_of, IsGate, IsBelow}
+use Rattle.rm_history.specs.Batched.{acts_after, acts_of_batches, batch_of, IsGate, IsBelow, AreBelow}
 use Rattle.rm_history.specs.Rules.{IsInOrder}
 use Rattle.rm_history.proofs.Appending.{lsn_of-act_at, length-spelling_all}
 use Rattle.rm_history.proofs.Readings.{spelling_long}
 use Rattle.rm_record.specs.declared.records.LogRecord.{LogRecord}
 use Rattle.rm_record.specs.Records.{spelling, spelling_all}
 use Rattle.rm_image.specs.Starts.{records_before}
-use Rattle.rm_image.specs.Standing.{IsOnPage, StandsFor}
-use Rattle.rm_image.specs.ImageLaws.{PagesPastTheCopyAreEmpty}
+use Rattle.rm_image.specs.Standing.{IsOnPage, HoldsPage, StandsFor}
+use Rattle.rm_image.specs.ImageLaws.{PagesPastTheCopyAreEmpty, PagesPastTheFileAreEmpty}
+use Rattle.rm_image.proofs.PrefixLaws.{version_off, page_off}
 use Rattle.rm_image.proofs.Gates.{gate_within}
 
 -- where a record of these batches stands: before their end, and its batch is not before a gate that it is not before
@@ -108,3 +109,15 @@ module _ (batches : List Batch) (start n page : ℕ) (gate : IsGate batches star
 pub pages_past_the_copy_are_empty : PagesPastTheCopyAreEmpty
 pages_past_the_copy_are_empty area format batches half start n page ordered copy past =
     empty_stands batches start n page copy.gate past (acts_of_batches batches) ordered (all_placed batches) copy.below
+
+-- ---- pages past the file
+
+empty_page : (pages page : ℕ) (history : History) → AreBelow pages history → pages ≤ page → HoldsPage page 0 [] history
+empty_page pages page [] below past = (refl, refl)
+empty_page pages page (act ∷ before) below past =
+    let off : IsOnPage page act → ⊥ = not_on pages page act past below.0 in
+    let rest : HoldsPage page 0 [] before = empty_page pages page before below.1 past in
+    (rest.0 ∙ sym (version_off page act before off), rest.1 ∙ sym (page_off page act before off))
+
+pub pages_past_the_file_are_empty : PagesPastTheFileAreEmpty
+pages_past_the_file_are_empty start batches page below past = empty_page start.pages page (acts_of_batches batches) below past
