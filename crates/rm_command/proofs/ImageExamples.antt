@@ -155,7 +155,7 @@ logged_sound = record {
   room = lit≤ tt;
 }
 
--- it holds that commit and its row, and no other number of commits
+-- it holds that commit and its row, and no other number of commits or other rows
 pub logged_holds : Holds 1 (with_row none first row) logged
 logged_holds = record {
   image = plain_image 1 (batch ∷ []) logged
@@ -165,15 +165,16 @@ logged_holds = record {
   rows_are = refl;
 }
 
+logged_batches : (count : ℕ) (rows : Rows) (held : Holds count rows logged) → held.image.batches ≡ batch ∷ []
+logged_batches count rows held = log_once (logged area.Log) held.image.batches (batch ∷ []) held.image.sound.has_log logged_has_log
+
 pub logged_count : (count : ℕ) (rows : Rows) → Holds count rows logged → count ≡ 1
 logged_count count rows held =
-    let same : held.image.batches ≡ batch ∷ [] = log_once (logged area.Log) held.image.batches (batch ∷ []) held.image.sound.has_log logged_has_log in
-    sym held.commits_are ∙ ap (λ (batches : List Batch). commit_count (acts_of_batches batches)) same
+    sym held.commits_are ∙ ap (λ (batches : List Batch). commit_count (acts_of_batches batches)) (logged_batches count rows held)
 
-pub logged_rows : (count : ℕ) (rows : Rows) → Holds count rows logged → rows ≡ with_row none first row
+logged_rows : (count : ℕ) (rows : Rows) → Holds count rows logged → rows ≡ with_row none first row
 logged_rows count rows held =
-    let same : held.image.batches ≡ batch ∷ [] = log_once (logged area.Log) held.image.batches (batch ∷ []) held.image.sound.has_log logged_has_log in
-    sym held.rows_are ∙ ap (λ (batches : List Batch). rows_of_log (acts_of_batches batches)) same
+    sym held.rows_are ∙ ap (λ (batches : List Batch). rows_of_log (acts_of_batches batches)) (logged_batches count rows held)
 
 -- after a run with an acknowledged commit the image with it may be left, and the one without it may not
 abbrev lines : List Line

@@ -1,5 +1,5 @@
 -- What the images of a run have.
-use Rattle.std.proofs.Common.{◌≡◌, inl, inr, ℕ, ◌+◌, true, false, List, [], ◌∷◌, ◌++◌, length, refl, sym, ap, subst, ◌∙◌, arith}
+use Rattle.std.proofs.Common.{◌≡◌, inl, inr, ℕ, ◌+◌, ◌≤◌, true, false, List, [], ◌∷◌, ◌++◌, length, refl, sym, ap, subst, ◌∙◌, arith}
 use Rattle.std.proofs.lemmas.Bool.{true≢false}
 use Rattle.rm_script.specs.declared.lines.Line.{Line}
 use Rattle.rm_script.specs.declared.lines.Line.TheVariants as line
@@ -12,7 +12,7 @@ use Rattle.rm_session.specs.Session.{Core, State, Step}
 use Rattle.rm_wal.specs.Tails.{LogValue}
 use Rattle.rm_restart.specs.Sound.{Holds}
 use Rattle.rm_engine.specs.At.{IsAt, IsCommitOf, LeftByTurn}
-use Rattle.rm_engine.specs.Runs.{acknowledged, rows_after, HasFirst, HasAcknowledged, open_of, ShowsRun, IsWithin, IsAfter}
+use Rattle.rm_engine.specs.Runs.{acknowledged, open_after, rows_after, HasFirst, HasAcknowledged, open_of, ShowsRun, IsWithin, IsAfter}
 use Rattle.rm_engine.proofs.Runs.{acknowledged-snoc, rows_after-stays}
 use Rattle.rm_engine.proofs.GoingOn.{committed_more}
 
@@ -27,6 +27,21 @@ commit_reply old new line.Commit reply.Committed step commits = refl
 commit_reply old new line.Commit reply.Skipped step commits = absurd (true≢false (sym commits ∙ step.comes.0))
 commit_reply old new line.Commit answer step commits = absurd step.comes
 commit_reply old new asked answer step commits = absurd commits
+
+-- an image with one commit more than these, whose rows are those of the run with that one
+one_more : (before count : ℕ) (rows shown : Rows) (lines : List Line) (replies : List Reply) → count + 1 ≤ acknowledged replies + open_after replies 0
+    → shown ≡ rows_after lines replies (count + 1) rows → (c : Image) → Holds ((before + count) + 1) shown c
+    → (first : HasFirst before rows lines replies c) × (first.count ≡ count + 1)
+one_more before count rows shown lines replies most same c holds =
+    let counted : (before + count) + 1 ≡ before + (count + 1) = omega arith in (
+      record {
+        count = count + 1;
+        most = most;
+        holds = subst (λ (n : ℕ). Holds n (rows_after lines replies (count + 1) rows) c) counted
+            (subst (λ (r : Rows). Holds ((before + count) + 1) r c) same holds);
+      },
+      refl,
+    )
 
 module _ (before : ℕ) (rows : Rows) (lines : List Line) (replies : List Reply) where
   -- an image with the acknowledged transactions
@@ -61,15 +76,7 @@ module _ (before : ℕ) (rows : Rows) (lines : List Line) (replies : List Reply)
     pub first_open : (c : Image) → core.active ≡ true → Holds ((before + acknowledged replies) + 1) (rows_of core.pages) c
         → (first : HasFirst before rows lines replies c) × (first.count ≡ acknowledged replies + 1)
     first_open c active holds =
-        let count : (before + acknowledged replies) + 1 ≡ before + (acknowledged replies + 1) = omega arith in (
-          record {
-            count = acknowledged replies + 1;
-            most = omega (arith, shows.opened, ap open_of active);
-            holds = subst (λ (n : ℕ). Holds n (rows_after lines replies (acknowledged replies + 1) rows) c) count
-                (subst (λ (r : Rows). Holds ((before + acknowledged replies) + 1) r c) shows.shown holds);
-          },
-          refl,
-        )
+        one_more before (acknowledged replies) rows (rows_of core.pages) lines replies (omega (arith, shows.opened, ap open_of active)) shows.shown c holds
 
     -- what a turn may leave has the acknowledged transactions, and maybe the one that it commits
     pub acknowledged_left : (asked : Line) (c : Image)
@@ -80,21 +87,14 @@ module _ (before : ℕ) (rows : Rows) (lines : List Line) (replies : List Reply)
         let has = first_open c (commit_open core asked one.0) one.1 in record { first = has.0; all = omega (arith, has.1) }
 
     -- and so none but the acknowledged ones, once the turn is made
-    with_commit : (asked : Line) → length lines ≡ length replies → (c : Image) → Holds ((before + acknowledged replies) + 1) (rows_of core.pages) c
+    with_commit : (asked : Line) → length lines ≡ length replies → (c : Image)
+        → Holds ((before + acknowledged replies) + 1) (rows_of core.pages) c
         → IsWithin before rows (lines ++ asked ∷ []) (replies ++ reply.Committed ∷ []) c
     with_commit asked same c holds =
-        let longer = rows_after (lines ++ asked ∷ []) (replies ++ reply.Committed ∷ []) in
-        let count : (before + acknowledged replies) + 1 ≡ before + (acknowledged replies + 1) = omega arith in
-        let shown = committed_more rows lines replies core core asked same shows reply.Committed in
-        record {
-          first = record {
-            count = acknowledged replies + 1;
-            most = omega (arith, acknowledged-snoc replies reply.Committed);
-            holds = subst (λ (n : ℕ). Holds n (longer (acknowledged replies + 1) rows) c) count
-                (subst (λ (r : Rows). Holds ((before + acknowledged replies) + 1) r c) shown holds);
-          };
-          few = omega (arith, acknowledged-snoc replies reply.Committed);
-        }
+        let acked = acknowledged-snoc replies reply.Committed in
+        let has = one_more before (acknowledged replies) rows (rows_of core.pages) (lines ++ asked ∷ []) (replies ++ reply.Committed ∷ [])
+        (omega (arith, acked)) (committed_more rows lines replies core core asked same shows reply.Committed) c holds in
+        record { first = has.0; few = omega (arith, has.1, acked) }
 
   pub within_left : (old new : State) (asked : Line) (answer : Reply) → Step old asked answer new → length lines ≡ length replies
       → ShowsRun rows lines replies old.core → (c : Image)
@@ -106,7 +106,8 @@ module _ (before : ℕ) (rows : Rows) (lines : List Line) (replies : List Reply)
       (sym (commit_reply old new asked answer step one.0)) (with_commit old.core shows asked same c one.1)
 
 -- before the first line
-pub opened_after : (file_pages before : ℕ) (rows : Rows) (core : Core) (log : LogValue) (under inserts : ℕ) (left : Image → Type 0) → core.active ≡ false
+pub opened_after : (file_pages before : ℕ) (rows : Rows) (core : Core) (log : LogValue) (under inserts : ℕ) (left : Image → Type 0)
+    → core.active ≡ false
     → IsAt file_pages before rows core log under inserts left → IsAfter file_pages before rows [] [] core log under inserts left
 opened_after file_pages before rows core log under inserts left idle at =
     let none : before ≡ before + 0 = omega arith in

@@ -63,7 +63,8 @@ not_without_the_first : rows_after lines replies 2 none first ≡ None → ⊥
 not_without_the_first is = cc
 
 -- of two rows at one place the later stands
-later_stands : rows_after (line.Begin ∷ line.Insert 0 two ∷ line.Insert 1 one ∷ []) (reply.Began (record { 0 = 1 }) ∷ reply.Inserted first ∷ reply.Inserted first ∷ []) 1 none first ≡ Some one
+later_stands : rows_after (line.Begin ∷ line.Insert 0 two ∷ line.Insert 1 one ∷ [])
+    (reply.Began (record { 0 = 1 }) ∷ reply.Inserted first ∷ reply.Inserted first ∷ []) 1 none first ≡ Some one
 later_stands = refl
 
 -- a begin opens a transaction, a commit ends it, and any other reply leaves what is open
@@ -82,7 +83,8 @@ module _ (rows : Rows) where
   put_nothing : (put rows (line.Insert 0 two) reply.Skipped ≡ rows) × (put rows (line.Insert 0 two) reply.NoSpace ≡ rows)
   put_nothing = (refl, refl)
 
-  rows_stay : rows_after (line.Insert 0 two ∷ line.Begin ∷ line.Insert 0 two ∷ line.Commit ∷ []) (reply.Skipped ∷ reply.Began (record { 0 = 1 }) ∷ reply.NoSpace ∷ reply.Committed ∷ []) 1 rows ≡ rows
+  rows_stay : rows_after (line.Insert 0 two ∷ line.Begin ∷ line.Insert 0 two ∷ line.Commit ∷ [])
+      (reply.Skipped ∷ reply.Began (record { 0 = 1 }) ∷ reply.NoSpace ∷ reply.Committed ∷ []) 1 rows ≡ rows
   rows_stay = refl
 
 -- a session over one page with a row, with no transaction and with one
@@ -114,7 +116,7 @@ commit_changes = (refl, refl)
 read_changes : Changes busy (line.Read (target.Name 0)) (reply.Row two) busy
 read_changes = (tt, refl)
 
--- no begin is told that it is committed, and no read that it inserted
+-- no begin has the reply that it committed, and no read that it inserted
 no_commit_of_begin : (new : Core) → Changes idle line.Begin reply.Committed new → ⊥
 no_commit_of_begin new changes = changes.0
 
@@ -145,7 +147,7 @@ commits = refl
 commits_none : (IsCommitOf idle line.Commit → ⊥) × (IsCommitOf busy line.Begin → ⊥)
 commits_none = (λ is. true≢false (sym is), λ is. is)
 
--- the last id is 4294967295: behind it a begin outside of a transaction lacks one, and before it none does
+-- the last id is 4294967295: after it a begin outside of a transaction lacks one, and before it none does
 spent : LacksIds (record { pages = []; next = 4294967296; active = false }) line.Begin (record { 0 = 4294967295 })
 spent = (refl, refl, refl)
 
