@@ -66,10 +66,10 @@ module _ (pages count : ℕ) (rows : Rows) (core : Core) (log : LogValue) (under
 
   -- the images have the log whose batches stand
   pub tails : Tails log.batch log.tail left at.batches at.tail
-  tails = record { behind = at.batch_is; spelled = at.tail_is; records = at.records; logs = λ c now. (at.images c now).log }
+  tails = record { gate_is = at.batch_is; spelled = at.tail_is; records = at.records; logs = λ c now. (at.images c now).log }
 
   master_stays : (c : Image) → ComesByFlush log.batch (written_tail log.tail) left c → (d : Image) × left d × (c Master ≡ d Master)
-  master_stays c comes = (comes.from, comes.was, comes.step.areas Master (λ same. cc))
+  master_stays c comes = (comes.0, comes.1, comes.2.others.each Master (λ same. cc))
 
   end_is : gate_of (at.tail ∷ at.batches) ≡ end_of log
   end_is = omega (arith, at.batch_is, ap (λ (l : List ℕ). length l) at.tail_is)
@@ -178,7 +178,7 @@ module _ (pages count : ℕ) (rows : Rows) (core : Core) (log : LogValue) (under
     -- the images have the log whose batches stand
     pub tails_closing : Tails log.batch (log.tail ++ spelling (Commit txn)) left at.batches (at.tail ++ Commit txn ∷ [])
     tails_closing = record {
-      behind = at.batch_is;
+      gate_is = at.batch_is;
       spelled = tail_closing;
       records = all-snoc at.tail (Commit txn) at.records is_record;
       logs = λ c now. (at.images c now).log;
@@ -206,11 +206,11 @@ module _ (pages count : ℕ) (rows : Rows) (core : Core) (log : LogValue) (under
     pub holds_in_commit : (c : Image) → HasEither at.batches (at.tail ++ Commit txn ∷ []) c → ComesByFlush log.batch (written_tail (log.tail ++ spelling (Commit txn))) left c
         → Holds count rows c ⊎ Holds (count + 1) (rows_of core.pages) c
     holds_in_commit c (inl old) comes =
-        let same : c Master ≡ comes.from Master = comes.step.areas Master (λ equal. cc) in
-        inl (holds_of pages count rows at.batches c (image_with_log pages at.batches at.batches comes.from c (at.images comes.from comes.was) same old) at.sound at.commits_stand at.rows_stand)
+        let same : c Master ≡ comes.0 Master = comes.2.others.each Master (λ equal. cc) in
+        inl (holds_of pages count rows at.batches c (image_with_log pages at.batches at.batches comes.0 c (at.images comes.0 comes.1) same old) at.sound at.commits_stand at.rows_stand)
     holds_in_commit c (inr new) comes =
-        let same : c Master ≡ comes.from Master = comes.step.areas Master (λ equal. cc) in
-        inr (holds_of pages (count + 1) (rows_of core.pages) (closing ∷ at.batches) c (image_with_log pages at.batches (closing ∷ at.batches) comes.from c (at.images comes.from comes.was) same new)
+        let same : c Master ≡ comes.0 Master = comes.2.others.each Master (λ equal. cc) in
+        inr (holds_of pages (count + 1) (rows_of core.pages) (closing ∷ at.batches) c (image_with_log pages at.batches (closing ∷ at.batches) comes.0 c (at.images comes.0 comes.1) same new)
         sound_closing after.commits_are after.rows_are)
 
     -- and once it is durable the session stands behind it
@@ -227,8 +227,8 @@ module _ (pages count : ℕ) (rows : Rows) (core : Core) (log : LogValue) (under
       sound = sound_closing;
       images = λ c now.
           let by = comes c now in
-          let same : c Master ≡ by.from Master = by.step.areas Master (λ equal. cc) in
-          image_with_log pages at.batches (closing ∷ at.batches) by.from c (at.images by.from by.was) same (logs c now);
+          let same : c Master ≡ by.0 Master = by.2.others.each Master (λ equal. cc) in
+          image_with_log pages at.batches (closing ∷ at.batches) by.0 c (at.images by.0 by.1) same (logs c now);
       commits_stand = after.commits_are;
       rows_stand = after.rows_are;
       nothing_behind = λ idle. refl;

@@ -6,7 +6,7 @@ use Rattle.rm_outside.specs.Areas.{is_same}
 use Rattle.rm_outside.specs.Counts.{CountsBlock, CountsBytes, CountsAtMost}
 use Rattle.rm_outside.specs.Images.{Image}
 use Rattle.rm_outside.specs.Moments.{AddsNone, ComesBy, Elapses, Follows, IsDurable, started, goes_on, joined, weaker}
-use Rattle.rm_outside.specs.Calls.{Facts, StaysUnless, Counts, Reading, Writing}
+use Rattle.rm_outside.specs.Calls.{Facts, LeavesContent, StaysUnless, Counts, Reading, Writing}
 
 -- ---- counts
 
@@ -91,6 +91,10 @@ module _ {data_read log_read : Bool} where
   -- where nothing is counted, anything may be
   pub reads_as : {a b : Facts} → Reading false false a b → Reading data_read log_read a b
   reads_as syncs = record { content = syncs.content; crash = syncs.crash; time = syncs.time; counts = counts_as syncs.counts }
+
+-- what is all synced stays so
+pub synced_on : {data_read log_read : Bool} {a b : Facts} → Reading data_read log_read a b → LeavesContent a → LeavesContent b
+synced_on reads synced = λ c now. synced c (reads.crash.each c now) ∙ sym reads.content
 
 -- ---- calls that write
 

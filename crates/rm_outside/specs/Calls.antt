@@ -24,6 +24,7 @@ pub record Facts : Type 1 where
   pub faults : Area → ℕ
   pub data_reads : ℕ
   pub log_reads : ℕ
+  pub models_content : Bool
 
 abbrev pub facts_of : {V : Type 0} → Ghosts V → V → Facts
 facts_of g volume = record {
@@ -34,6 +35,7 @@ facts_of g volume = record {
   faults = g.faults volume;
   data_reads = g.data_reads volume;
   log_reads = g.log_reads volume;
+  models_content = g.models_content;
 }
 
 -- the bytes stand at this offset of the area, if the volume models its content
@@ -45,8 +47,11 @@ abbrev pub IsSynced : {V : Type 0} → Ghosts V → Area → V → Type 0
 IsSynced g area volume = IsDurable area (g.content volume) (g.may_leave volume)
 
 -- a crash now leaves the content and nothing else
+abbrev pub LeavesContent : Facts → Type 0
+LeavesContent volume = (c : Image) → volume.may_leave c → c ≡ volume.content
+
 abbrev pub IsAllSynced : {V : Type 0} → Ghosts V → V → Type 0
-IsAllSynced g volume = (c : Image) → g.may_leave volume c → c ≡ g.content volume
+IsAllSynced g volume = LeavesContent (facts_of g volume)
 
 -- ---- from one moment to a later one
 
@@ -108,6 +113,10 @@ abbrev pub ReadsNothing : {V : Type 0} → Ghosts V → V → V → Type 0
 ReadsNothing g old new = Counts false false (facts_of g old) (facts_of g new) × IsSame g old new
 
 -- ---- faults
+
+-- the area failed between the two, as its count shows
+abbrev pub HasFailed : Facts → Facts → Area → Type 0
+HasFailed old new area = Rises (old.faults area) (new.faults area)
 
 -- the fault is that this area failed, as its count shows
 abbrev pub IsFaultIn : Area → (Area → ℕ) → (Area → ℕ) → Fault → Type 0
