@@ -133,10 +133,10 @@ replies = reply.Began (record { 0 = 1 }) ∷ reply.Inserted first ∷ []
 
 -- while it is being committed, an image may lack it or have it
 lacks : HasAsked 0 none lines replies (Some line.Commit) made
-lacks = record { first = record { count = 0; began = lit≤ tt; holds = made_holds }; few = lit≤ tt }
+lacks = record { first = record { count = 0; most = lit≤ tt; holds = made_holds }; few = lit≤ tt }
 
 has : HasAsked 0 none lines replies (Some line.Commit) logged
-has = record { first = record { count = 1; began = lit≤ tt; holds = logged_holds }; few = lit≤ tt }
+has = record { first = record { count = 1; most = lit≤ tt; holds = logged_holds }; few = lit≤ tt }
 
 -- before that none has it
 not_early : HasAsked 0 none lines replies None logged → ⊥

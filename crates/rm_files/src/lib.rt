@@ -10,8 +10,6 @@ mod counts;
 mod files;
 mod pieces;
 mod streams;
-#[cfg(test)]
-mod tests;
 mod volume;
 
 pub use streams::{Input, Output};

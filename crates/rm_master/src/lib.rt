@@ -18,6 +18,3 @@ pub use faults::{CreateFault, MasterFault};
 pub use fields::Fields;
 pub use laws::an_area_has_one_reading;
 pub use master::Master;
-
-#[cfg(test)]
-mod tests;

@@ -20,6 +20,3 @@ mod volume;
 pub use crash::FILLING;
 pub use streams::{MemSink, MemSource};
 pub use volume::MemVolume;
-
-#[cfg(test)]
-mod tests;

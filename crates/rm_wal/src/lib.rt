@@ -16,6 +16,3 @@ mod reading;
 
 pub use attaching::Attached;
 pub use log::{LONG_TAIL, Log, LogFull};
-
-#[cfg(test)]
-mod tests;
