@@ -1,14 +1,15 @@
 -- What is due for the lines of a script, on a volume that was opened.
-use Rattle.std.proofs.Common.{◌≡◌, inl, inr, ℕ, Bool, true, false, List, [], ◌++◌, Option, IsTrue, sym, ap, ◌∙◌, subst, append_assoc, append-nil}
+use Rattle.std.proofs.Common.{◌≡◌, inl, inr, ℕ, Bool, true, false, List, [], ◌++◌, Option, IsTrue, refl, sym, ap, ◌∙◌, subst, append_assoc, append-nil}
 use Rattle.std.specs.Prelude.{MatchBool}
 use Rattle.rm_types.specs.declared.areas.Area.{Area}
 use Rattle.rm_script.specs.declared.lines.Line.{Line}
 use Rattle.rm_types.specs.declared.slots.Slot.{Slot}
 use Rattle.rm_types.specs.declared.numbers.TheConstants.{MAX_LOG}
 use Rattle.rm_types.specs.declared.operations.Reply.{Reply}
-use Rattle.rm_outside.specs.Images.{Image}
+use Rattle.rm_types.specs.declared.areas.Area.TheVariants.{Log}
+use Rattle.rm_outside.specs.Images.{Image, KeepsOthers}
 use Rattle.rm_outside.specs.Moments.{joined, weaker}
-use Rattle.rm_outside.specs.Calls.{AllLeft, Facts, HasFailed, LeavesContent, Reading}
+use Rattle.rm_outside.specs.Calls.{AllLeft, Facts, HasFailed, LeavesContent, Reading, Writing}
 use Rattle.rm_outside.proofs.FaultLemmas.{Rises-before}
 use Rattle.rm_outside.specs.Streams.{Takes}
 use Rattle.rm_outside.proofs.StreamLemmas.{Takes-append}
@@ -33,6 +34,7 @@ use Rattle.rm_command.specs.declared.statuses.Status.TheVariants as status
 use Rattle.rm_command.specs.Status.{error_line, of_restart}
 use Rattle.rm_command.specs.Running.{Moves}
 use Rattle.rm_command.specs.Told.{Begins, is_sink, Owes}
+use Rattle.rm_command.specs.Volumes.{ChangesBy}
 use Rattle.rm_command.specs.Turns.{RunTo, RunText, HasRunImages, LeavesSound, LinesDue}
 use Rattle.rm_command.specs.Turning.{used_by, LeavesRun, Gathers}
 use Rattle.rm_command.proofs.VolumeLemmas.{owes_line, refused}
@@ -80,7 +82,7 @@ at_engine engine pages next log file_pages count rows left session log_is under 
 module _ (old mid new : Facts) (lines : List Line) (pages : List (List Slot)) (next : ℕ) (log : LogValue) (inserted : ℕ) (engine : Engine)
     (opens : Opens (IsTrue old.models_content) old.content MAX_LOG pages next log inserted)
     (session : engine.session ≡ opened pages next) (log_is : engine.log ≡ log) (under : engine.under.0 ≡ 0) (inserts : engine.inserts ≡ 0)
-    (synced : LeavesContent mid) (opening : Reading false true old mid) where
+    (synced : LeavesContent mid) (opening : Reading false true old mid) (writes : Writing (KeepsOthers Log) (KeepsOthers Log) mid new) where
   -- from a sound content on the images are those of the run
   run_images : (done : List Line) (replies : List Reply) (asked : Option Line) → LeavesRun engine mid new done replies asked → LeavesSound old new done replies asked
   run_images done replies asked leaves_run models image =
@@ -93,6 +95,13 @@ module _ (old mid new : Facts) (lines : List Line) (pages : List (List Slot)) (n
       subst (λ (b : List Batch). HasRunImages (commit_count (acts_of_batches b)) (rows_of_log (acts_of_batches b)) old new done replies asked) (sym read.batches_are)
       (record { any_moment = joined (weaker opening.time (λ c l. inl l)) (weaker run.0 (λ c has. inr has)); durable = run.1 })
 
+  keeps : ChangesBy (KeepsOthers Log) old new
+  keeps = record {
+    content = rw (← opening.content) writes.content;
+    images = joined (weaker opening.time (λ c left. (c, left, record { each = λ other differs. refl })))
+        (weaker writes.time (λ c comes. (comes.0, opening.crash.each comes.0 comes.1, comes.2)));
+  }
+
   pub lines_due : (answer : Status) (text : List ℕ) → RunText engine.session (used_by engine) lines (LeavesRun engine mid new) (HasFailed mid new) answer text → LinesDue old new lines answer text
   lines_due answer text due = let uses : used_by engine ≡ used_of log 0 = ap (λ (l : LogValue). used_of l engine.inserts) log_is ∙ ap (used_of log) inserts in inr (record {
     pages = pages;
@@ -100,6 +109,7 @@ module _ (old mid new : Facts) (lines : List Line) (pages : List (List Slot)) (n
     log = log;
     inserted = inserted;
     opens = opens;
+    keeps = keeps;
     written = subst (λ (s : State). RunText s (used_of log 0) lines (LeavesSound old new) (HasFailed old new) answer text) session
         (subst (λ (u : Used). RunText engine.session u lines (LeavesSound old new) (HasFailed old new) answer text) uses
         (run_text_more engine.session (used_by engine) lines _ _ (HasFailed mid new) (HasFailed old new) run_images (λ area. Rises-before _ _ _ (opening.counts.faults area)) answer text due));

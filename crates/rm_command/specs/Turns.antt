@@ -7,7 +7,8 @@ use Rattle.rm_types.specs.declared.operations.Reply.{Reply}
 use Rattle.rm_types.specs.declared.slots.Slot.{Slot}
 use Rattle.rm_types.specs.declared.numbers.TheConstants.{MAX_LOG}
 use Rattle.rm_types.specs.declared.numbers.TxnId.{TxnId}
-use Rattle.rm_outside.specs.Images.{Image}
+use Rattle.rm_types.specs.declared.areas.Area.TheVariants.{Log}
+use Rattle.rm_outside.specs.Images.{Image, KeepsOthers}
 use Rattle.rm_outside.specs.Calls.{AllLeft, Facts, HasFailed}
 use Rattle.rm_model.specs.Object.{Rows}
 use Rattle.rm_session.specs.Session.{State, opened}
@@ -27,7 +28,7 @@ use Rattle.rm_command.specs.declared.statuses.Status.{Status}
 use Rattle.rm_command.specs.declared.statuses.Status.TheVariants as status
 use Rattle.rm_command.specs.Status.{error_line}
 use Rattle.rm_command.specs.Reading.{HasLeft}
-use Rattle.rm_command.specs.Volumes.{RefusedText}
+use Rattle.rm_command.specs.Volumes.{RefusedText, ChangesBy}
 
 -- A session did the first so many of the lines, from this state and this use of the log to that one, and this holds
 -- of its replies and of the line behind them.
@@ -99,6 +100,8 @@ pub record OpenedText (old new : Facts) (lines : List Line) (answer : Status) (t
   pub log : LogValue
   pub inserted : ℕ
   pub opens : Opens (IsTrue old.models_content) old.content MAX_LOG pages next log inserted
+  -- no area changes but Log
+  pub keeps : ChangesBy (KeepsOthers Log) old new
   pub written : RunText (opened pages next) (used_of log 0) lines (LeavesSound old new) (HasFailed old new) answer text
 
 -- what is due for the lines of a script

@@ -3,8 +3,10 @@ use Rattle.std.specs.Prelude.{◌≡◌, ℕ, List, ◌⊎◌, IsTrue}
 use Rattle.rm_types.specs.declared.slots.Slot.{Slot}
 use Rattle.rm_types.specs.declared.numbers.TheConstants.{MAX_LOG}
 use Rattle.rm_outside.specs.Images.{Image}
+use Rattle.rm_outside.specs.Moments.{ComesBy}
 use Rattle.rm_outside.specs.Calls.{AllLeft, Facts, HasFailed}
 use Rattle.rm_script.specs.Texts.{created_line, restart_line}
+use Rattle.rm_master.specs.Steps.{KeepsCopyAndLog}
 use Rattle.rm_master.specs.Slots.{IsMade, IsUnmade}
 use Rattle.rm_master.specs.Fresh.{IsFresh}
 use Rattle.rm_wal.specs.Tails.{LogValue}
@@ -21,6 +23,11 @@ CreateText pages old new status.AlreadyMade text = (IsTrue old.models_content �
 CreateText pages old new status.NoMemory text = text ≡ error_line status.NoMemory
 CreateText pages old new other text = ⊥
 
+-- What a read gives changes by the step, and so does each image since: it comes by the step from one of before.
+pub record ChangesBy (step : Image → Image → Type 0) (old new : Facts) : Type 0 where
+  pub content : step old.content new.content
+  pub images : AllLeft old new (ComesBy step old.may_leave)
+
 -- What is due for `create`. Each image since the start is one from before, or is not made, or is a volume of this
 -- many pages without rows; and where the volume was made, or memory ran out, each is one from before.
 pub record CreateDue (pages : ℕ) (old new : Facts) (answer : Status) (text : List ℕ) : Type 0 where
@@ -28,6 +35,8 @@ pub record CreateDue (pages : ℕ) (old new : Facts) (answer : Status) (text : L
   pub images : AllLeft old new (λ c. old.may_leave c ⊎ (IsUnmade c ⊎ IsFresh pages c))
   pub made : IsTrue old.models_content → IsMade old.content → AllLeft old new old.may_leave
   pub untouched : answer ≡ status.NoMemory → AllLeft old new old.may_leave
+  -- area Copy stays, and area Log but for the byte of its first gate
+  pub keeps : ChangesBy KeepsCopyAndLog old new
 
 -- the error line of a volume that was not opened, and why
 abbrev pub RefusedText : Facts → Facts → Status → List ℕ → Type 0

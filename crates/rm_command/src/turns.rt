@@ -1,12 +1,12 @@
 //! The command `turns`: the lines of one session on the volume.
 
 ghost use Rattle.std.specs.Prelude.{◌≡◌, ℕ, ◌≤◌, ◌^◌, ◌++◌, List, [], Option, IsTrue, OnOk, IfErr, IsErrOf, ◌⊎◌};
-ghost use Rattle.rm_types.specs.declared.areas.Area.{Area as Areas};
 ghost use Rattle.rm_types.specs.declared.areas.Area.TheVariants.{Log as log_area};
 ghost use Rattle.rm_script.specs.declared.lines.Line.{Line as Lines};
 ghost use Rattle.rm_types.specs.declared.numbers.TheConstants.{MAX_LOG};
 ghost use Rattle.rm_outside.specs.Faults.{Rises};
-ghost use Rattle.rm_outside.specs.Calls.{facts_of, HasFailed, IsSynced};
+ghost use Rattle.rm_outside.specs.Calls.{facts_of, HasFailed, IsSynced, Writes};
+ghost use Rattle.rm_outside.specs.Images.{KeepsOthers};
 ghost use Rattle.rm_script.specs.Texts.{turn_line};
 ghost use Rattle.rm_engine.specs.Numbers.{IsReady};
 ghost use Rattle.rm_command.specs.Reading.{IsReadToEnd};
@@ -87,9 +87,8 @@ fn do_turns<V: Volume, K: Sink>(
         (LeavesRun engine.old (facts_of V.Volume volume.old) (facts_of V.Volume volume.new))
         (HasFailed (facts_of V.Volume volume.old) (facts_of V.Volume volume.new)))
         (K.taken out.old) (K.taken out.new) (Rises (K.faults out.old) (K.faults out.new)) status text.new.items) }
-    ensures counts { (area : Areas) → V.faults volume.old area ≤ V.faults volume.new area }
+    ensures writes { Writes V.Volume (KeepsOthers log_area) volume.old volume.new }
     ensures kept { K.faults out.old ≤ K.faults out.new }
-    ensures same { V.reference volume.new ≡ V.reference volume.old }
 {
     for line in lines {
         let reply = engine.turn(volume, line)?;
@@ -115,9 +114,8 @@ fn do_session<V: Volume, K: Sink>(
         (LeavesRun engine.old (facts_of V.Volume volume.old) (facts_of V.Volume volume.new))
         (HasFailed (facts_of V.Volume volume.old) (facts_of V.Volume volume.new)))
         (K.taken out.old) (K.taken out.new) (Rises (K.faults out.old) (K.faults out.new)) result text.new.items }
-    ensures counts { (area : Areas) → V.faults volume.old area ≤ V.faults volume.new area }
+    ensures writes { Writes V.Volume (KeepsOthers log_area) volume.old volume.new }
     ensures kept { K.faults out.old ≤ K.faults out.new }
-    ensures same { V.reference volume.new ≡ V.reference volume.old }
 {
     match do_turns(engine, lines, volume, text, out) {
         Ok(()) => match tell_unfinished(&engine.session, text) {

@@ -1,11 +1,10 @@
 //! The session and its log.
 
 ghost use Rattle.std.specs.Prelude.{◌≡◌, ℕ, ◌+◌, ◌-◌, ◌*◌, ◌^◌, ◌<◌, ◌≤◌, ◌++◌, ◌⊎◌, [], List, length, map, nat_lt, if◌then◌else◌, IfOk, OnOk, Err, true, false};
-ghost use Rattle.rm_types.specs.declared.areas.Area.{Area as Areas};
 ghost use Rattle.rm_types.specs.declared.faults.Fault.{Fault as Faults};
 ghost use Rattle.rm_types.specs.declared.numbers.TheConstants.{MAX_PAGES, MAX_SLOT, MAX_LOG};
-ghost use Rattle.rm_outside.specs.Images.{Image};
-ghost use Rattle.rm_outside.specs.Calls.{IsFaultIn};
+ghost use Rattle.rm_outside.specs.Images.{KeepsOthers};
+ghost use Rattle.rm_outside.specs.Calls.{IsFaultIn, Writes};
 ghost use Rattle.rm_outside.specs.Moments.{IsDurable, LeavesOnly};
 ghost use Rattle.rm_model.specs.Object.{Rows};
 ghost use Rattle.rm_types.specs.declared.numbers.TxnId.{TxnId as Txns};
@@ -81,9 +80,7 @@ impl Engine {
             → LeavesOnly (V.moment volume.old) (V.moment volume.new) (V.left_since volume.old) (V.left_since volume.new) (Holds count rows) }
 
         ensures cause { (fault : Faults) → result ≡ Err fault → IsFaultIn Area.Log (V.faults volume.old) (V.faults volume.new) fault }
-        ensures counts { (area : Areas) → V.faults volume.old area ≤ V.faults volume.new area }
-        ensures data_reads { V.data_reads volume.new ≡ V.data_reads volume.old }
-        ensures same { V.reference volume.new ≡ V.reference volume.old }
+        ensures writes { Writes V.Volume (KeepsOthers Area.Log) volume.old volume.new }
     {
         if self.log.tail() <= LONG_TAIL {
             return Ok(());
@@ -121,9 +118,7 @@ impl Engine {
             → LeavesOnly (V.moment volume.old) (V.moment volume.new) (V.left_since volume.old) (V.left_since volume.new) (Holds count rows) }
 
         ensures cause { (fault : Faults) → result ≡ Err (TurnFault.Fault fault) → IsFaultIn Area.Log (V.faults volume.old) (V.faults volume.new) fault }
-        ensures counts { (area : Areas) → V.faults volume.old area ≤ V.faults volume.new area }
-        ensures data_reads { V.data_reads volume.new ≡ V.data_reads volume.old }
-        ensures same { V.reference volume.new ≡ V.reference volume.old }
+        ensures writes { Writes V.Volume (KeepsOthers Area.Log) volume.old volume.new }
     {
         if !self.session.is_active() {
             return Ok(());
@@ -164,9 +159,7 @@ impl Engine {
             → LeavesOnly (V.moment volume.old) (V.moment volume.new) (V.left_since volume.old) (V.left_since volume.new) (Holds count rows) }
 
         ensures cause { (fault : Faults) → result ≡ Err (TurnFault.Fault fault) → IsFaultIn Area.Log (V.faults volume.old) (V.faults volume.new) fault }
-        ensures counts { (area : Areas) → V.faults volume.old area ≤ V.faults volume.new area }
-        ensures data_reads { V.data_reads volume.new ≡ V.data_reads volume.old }
-        ensures same { V.reference volume.new ≡ V.reference volume.old }
+        ensures writes { Writes V.Volume (KeepsOthers Area.Log) volume.old volume.new }
     {
         if !self.session.is_active() {
             return Ok(());
@@ -201,9 +194,7 @@ impl Engine {
             → LeavesOnly (V.moment volume.old) (V.moment volume.new) (V.left_since volume.old) (V.left_since volume.new) (Holds count rows) }
 
         ensures cause { (fault : Faults) → result ≡ Err (TurnFault.Fault fault) → IsFaultIn Area.Log (V.faults volume.old) (V.faults volume.new) fault }
-        ensures counts { (area : Areas) → V.faults volume.old area ≤ V.faults volume.new area }
-        ensures data_reads { V.data_reads volume.new ≡ V.data_reads volume.old }
-        ensures same { V.reference volume.new ≡ V.reference volume.old }
+        ensures writes { Writes V.Volume (KeepsOthers Area.Log) volume.old volume.new }
     {
         match line {
             Line::Begin => room_to_begin(&self.session, &self.log),
@@ -241,9 +232,7 @@ impl Engine {
         ensures full { (end : ℕ) → result ≡ Err (TurnFault.LogFull end) → ⊥ }
         ensures spent { (last : Txns) → result ≡ Err (TurnFault.TxnsSpent last) → ⊥ }
         ensures cause { (fault : Faults) → result ≡ Err (TurnFault.Fault fault) → IsFaultIn Area.Log (V.faults volume.old) (V.faults volume.new) fault }
-        ensures counts { (area : Areas) → V.faults volume.old area ≤ V.faults volume.new area }
-        ensures data_reads { V.data_reads volume.new ≡ V.data_reads volume.old }
-        ensures same { V.reference volume.new ≡ V.reference volume.old }
+        ensures writes { Writes V.Volume (KeepsOthers Area.Log) volume.old volume.new }
     {
         let _ = before;
         match (line, reply) {
@@ -299,9 +288,7 @@ impl Engine {
         ensures full { (end : ℕ) → result ≡ Err (TurnFault.LogFull end) → LacksRoom self.old.log.limit self.old.session.core (used_of self.old.log self.old.inserts) line.now end }
         ensures spent { (last : Txns) → result ≡ Err (TurnFault.TxnsSpent last) → LacksIds self.old.session.core line.now last }
         ensures cause { (fault : Faults) → result ≡ Err (TurnFault.Fault fault) → IsFaultIn Area.Log (V.faults volume.old) (V.faults volume.new) fault }
-        ensures counts { (area : Areas) → V.faults volume.old area ≤ V.faults volume.new area }
-        ensures data_reads { V.data_reads volume.new ≡ V.data_reads volume.old }
-        ensures same { V.reference volume.new ≡ V.reference volume.old }
+        ensures writes { Writes V.Volume (KeepsOthers Area.Log) volume.old volume.new }
     {
         self.make_room(volume, line)?;
         let before = Snapshot::of(&self.session);

@@ -1,12 +1,11 @@
 //! What a turn puts into the log.
 
 ghost use Rattle.std.specs.Prelude.{◌≡◌, ℕ, ◌+◌, ◌^◌, ◌<◌, ◌≤◌, [], ◌++◌, List, length, IfOk, OnOk, Err, ◌∷◌};
-ghost use Rattle.rm_types.specs.declared.areas.Area.{Area as Areas};
 ghost use Rattle.rm_types.specs.declared.faults.Fault.{Fault as Faults};
 ghost use Rattle.rm_types.specs.declared.numbers.TheConstants.{MAX_LOG};
 ghost use Rattle.rm_types.specs.declared.numbers.TxnId.{TxnId as Txns};
-ghost use Rattle.rm_outside.specs.Images.{Image};
-ghost use Rattle.rm_outside.specs.Calls.{IsFaultIn};
+ghost use Rattle.rm_outside.specs.Images.{Image, KeepsOthers};
+ghost use Rattle.rm_outside.specs.Calls.{IsFaultIn, Writes};
 ghost use Rattle.rm_outside.specs.Moments.{IsDurable, LeavesOnly};
 ghost use Rattle.rm_record.specs.Records.{IsRecord, spelling};
 ghost use Rattle.rm_record.specs.declared.records.LogRecord.TheVariants.{Insert, Commit};
@@ -85,9 +84,7 @@ pub(crate) fn log_commit<V: Volume>(
     ensures cause { (fault : Faults) → result ≡ Err (TurnFault.Fault fault) → IsFaultIn Area.Log (V.faults volume.old) (V.faults volume.new) fault }
     ensures full { (end : ℕ) → result ≡ Err (TurnFault.LogFull end) → ⊥ }
     ensures spent { (last : Txns) → result ≡ Err (TurnFault.TxnsSpent last) → ⊥ }
-    ensures counts { (area : Areas) → V.faults volume.old area ≤ V.faults volume.new area }
-    ensures data_reads { V.data_reads volume.new ≡ V.data_reads volume.old }
-    ensures same { V.reference volume.new ≡ V.reference volume.old }
+    ensures writes { Writes V.Volume (KeepsOthers Area.Log) volume.old volume.new }
 {
     let commit = LogRecord::Commit {
         txn: txn_before(next),

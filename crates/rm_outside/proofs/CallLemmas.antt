@@ -4,7 +4,7 @@ use Rattle.rm_types.specs.declared.areas.Area.{Area}
 use Rattle.rm_types.specs.declared.areas.Area.TheVariants.{Master, Log, Data, Space, Copy}
 use Rattle.rm_outside.specs.Areas.{is_same}
 use Rattle.rm_outside.specs.Counts.{CountsBlock, CountsBytes, CountsAtMost}
-use Rattle.rm_outside.specs.Images.{Image}
+use Rattle.rm_outside.specs.Images.{Image, KeepsOthers}
 use Rattle.rm_outside.specs.Moments.{AddsNone, ComesBy, Elapses, Follows, IsDurable, started, goes_on, joined, weaker}
 use Rattle.rm_outside.specs.Calls.{Facts, LeavesContent, StaysUnless, Counts, Reading, Writing}
 
@@ -190,3 +190,15 @@ pub durable_on : {change step : Image → Image → Type 0} {area : Area} {a b :
 durable_on written content_stays stays durable = record {
   each = λ c now. let d = written.crash.each c now in stays _ _ d.2 ∙ durable.each d.0 d.1 ∙ sym (content_stays _ _ written.content);
 }
+
+-- ---- calls that write one area
+
+module _ {area : Area} where
+  -- no call
+  pub keeps_none : {a : Facts} → ((c : Image) → a.left_since a.moment c → a.may_leave c) → Writing (KeepsOthers area) (KeepsOthers area) a a
+  keeps_none only_now = writes_none only_now (λ c. record { each = λ other differs. refl })
+
+  -- some calls, and then others
+  pub keeps_then : {a b c : Facts} → Writing (KeepsOthers area) (KeepsOthers area) a b → Writing (KeepsOthers area) (KeepsOthers area) b c
+      → Writing (KeepsOthers area) (KeepsOthers area) a c
+  keeps_then one other = writes_then one other (λ c d e first second. record { each = λ rest differs. second.each rest differs ∙ first.each rest differs })

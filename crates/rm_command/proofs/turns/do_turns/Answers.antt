@@ -7,6 +7,7 @@ use Rattle.std.proofs.lemmas.Option.{slice_get_read}
 use Rattle.rm_types.specs.declared.areas.Area.TheVariants.{Log}
 use Rattle.rm_script.specs.declared.lines.Line.{Line}
 use Rattle.rm_outside.specs.Calls.{facts_of, HasFailed}
+use Rattle.rm_outside.proofs.CallLemmas.{keeps_none, keeps_then}
 use Rattle.rm_outside.proofs.FaultLemmas.{fault_is, Rises-before}
 use Rattle.rm_engine.specs.Numbers.{LacksRoom}
 use Rattle.rm_engine.specs.Runs.{HasLogRoom}
@@ -21,9 +22,8 @@ loop-line-init g c = record {
   ready = c.requires.ready;
   synced = c.requires.synced;
   limit = c.requires.limit;
-  counts = λ area. omega arith;
+  writes = (keeps_none (g.met.V.Volume.only_now c.args.volume.now), refl);
   kept = omega arith;
-  same = refl;
 }
 
 pub returns-in_err-reply-clause-err : goal.returns-in_err-reply-clause-err
@@ -50,7 +50,7 @@ returns-in_err-reply-clause-err g c =
     (g.K.Sink.taken c.args.out.now) (g.K.Sink.taken c.loop-line.out) here c.loop-line.line-index c.loop-line.text.items turned asked is_next c.in_err-reply.field-0.0
     (λ end same. subst (λ (limit : ℕ). LacksRoom limit here.session.core (used_by here) asked end) c.loop-line.invariant.limit (c.turn.ensures.full end (c.in_err-reply.was ∙ ap Err same)))
     (λ last same. c.turn.ensures.spent last (c.in_err-reply.was ∙ ap Err same))
-    (λ f same. let why = fault_is _ _ _ _ (c.turn.ensures.cause f (c.in_err-reply.was ∙ ap Err same)) in (why.0, Rises-before _ _ _ (c.loop-line.invariant.counts Log) why.1)))
+    (λ f same. let why = fault_is _ _ _ _ (c.turn.ensures.cause f (c.in_err-reply.was ∙ ap Err same)) in (why.0, Rises-before _ _ _ (c.loop-line.invariant.writes.0.counts.faults Log) why.1)))
 
 pub returns-in_err-tell_reply-clause-err : goal.returns-in_err-tell_reply-clause-err
 returns-in_err-tell_reply-clause-err g c =
@@ -109,9 +109,8 @@ loop-line-preserved g c =
       ready = c.in_ok-reply.ensures.ready;
       synced = c.in_ok-reply.ensures.durable;
       limit = c.in_ok-reply.ensures.limit ∙ c.loop-line.invariant.limit;
-      counts = λ area. omega (arith, c.loop-line.invariant.counts area, c.in_ok-reply.ensures.counts area);
+      writes = (keeps_then c.loop-line.invariant.writes.0 c.in_ok-reply.ensures.writes.0, c.in_ok-reply.ensures.writes.1 ∙ c.loop-line.invariant.writes.1);
       kept = omega (arith, c.in_ok-tell_reply.ensures.kept);
-      same = c.in_ok-reply.ensures.same ∙ c.loop-line.invariant.same;
     }
 
 pub returns-clause-ok : goal.returns-clause-ok
@@ -126,3 +125,11 @@ returns-clause-ok g c =
     let turned = subst (λ (lines : List Line). Turned first here lines (StandsAfter first here old new) (g.K.Sink.taken c.args.out.now) (g.K.Sink.taken c.loop-line.out) c.loop-line.text.items) whole c.loop-line.invariant.turned in
     turned_leaves first here c.args.lines.now (StandsAfter first here old new) (λ lines replies. (next : Option Line) → LeavesRun first old new lines replies next)
     (g.K.Sink.taken c.args.out.now) (g.K.Sink.taken c.loop-line.out) c.loop-line.text.items (λ replies stands next. leaves_now first here old new c.args.lines.now replies stands next) turned
+
+pub returns-in_err-reply-clause-writes : goal.returns-in_err-reply-clause-writes
+returns-in_err-reply-clause-writes g c =
+    let so_far = c.loop-line.invariant.writes in let turn = c.turn.ensures.writes in (keeps_then so_far.0 turn.0, turn.1 ∙ so_far.1)
+
+pub returns-in_err-tell_reply-clause-writes : goal.returns-in_err-tell_reply-clause-writes
+returns-in_err-tell_reply-clause-writes g c =
+    let so_far = c.loop-line.invariant.writes in let turn = c.turn.ensures.writes in (keeps_then so_far.0 turn.0, turn.1 ∙ so_far.1)

@@ -1,8 +1,8 @@
 use Rattle.std.proofs.Common.{◌≡◌, ◌≤◌, take}
-use Rattle.rm_types.specs.declared.areas.Area.{Area}
 use Rattle.rm_types.specs.declared.areas.Area.TheVariants.{Log}
 use Rattle.rm_types.specs.declared.numbers.TheConstants.{MAX_LOG}
-use Rattle.rm_outside.specs.Calls.{facts_of, IsSynced}
+use Rattle.rm_outside.specs.Calls.{facts_of, IsSynced, Writes}
+use Rattle.rm_outside.specs.Images.{KeepsOthers}
 use Rattle.rm_engine.specs.Numbers.{IsReady}
 use Rattle.rm_command.specs.Turning.{StandsAfter, Turned}
 use Rattle.rm_command.proofs.turns.do_turns.Given as goal
@@ -16,7 +16,6 @@ invariant-loop-line g l = record {
   ready : IsReady l.engine.session.core l.engine.log l.engine.inserts;
   synced : IsSynced g.V.Volume Log l.volume;
   limit : l.engine.log.limit ≡ MAX_LOG;
-  counts : (area : Area) → g.V.Volume.faults l.initial.volume area ≤ g.V.Volume.faults l.volume area;
+  writes : Writes g.V.Volume (KeepsOthers Log) l.initial.volume l.volume;
   kept : g.K.Sink.faults l.initial.out ≤ g.K.Sink.faults l.out;
-  same : g.V.Volume.reference l.volume ≡ g.V.Volume.reference l.initial.volume;
 }

@@ -13,5 +13,6 @@ returns-clause-owes g c =
       images = made.any_moment;
       made = λ models is. (made.made models is).0.time;
       untouched = λ memory. let differ = ap number_of memory in absurd (omega arith);
+      keeps = record { content = made.writes.0.content; images = made.writes.0.time };
     })
     err.1

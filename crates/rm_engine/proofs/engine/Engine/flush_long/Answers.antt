@@ -1,4 +1,4 @@
-use Rattle.std.proofs.Common.{◌≡◌, ◌<◌, length, sym, ap, subst, arith, cond, ltb, []}
+use Rattle.std.proofs.Common.{◌≡◌, ◌<◌, length, sym, ap, subst, arith, cond, ltb, [], refl}
 use Rattle.std.proofs.lemmas.Bool.{lt-ltb}
 use Rattle.rm_outside.specs.Moments.{started, weaker}
 use Rattle.rm_wal.specs.Tails.{LogValue, end_of}
@@ -6,6 +6,7 @@ use Rattle.rm_wal.specs.declared.log.TheConstants.{LONG_TAIL}
 use Rattle.rm_engine.specs.At.{IsAt}
 use Rattle.rm_engine.proofs.Flushes.{holds_now, tails, holds_in_flush, at_flushed}
 use Rattle.rm_engine.proofs.Leaves.{both, active_of_tail}
+use Rattle.rm_outside.proofs.CallLemmas.{keeps_none, writes_weaker}
 use Rattle.rm_engine.proofs.engine.Engine.flush_long.Goals as goal
 
 pub returns-then-tail-le-LONG_TAIL-clause-any_moment : goal.returns-then-tail-le-LONG_TAIL-clause-any_moment
@@ -37,3 +38,15 @@ returns-clause-at g c pages count rows at =
     (at_flushed pages count rows _ _ _ _ _ at c.requires.ready active some (g.V.Volume.may_leave c.flush.new.volume)
     (c.in_ok-flush.ensures.done.logs _ _ (tails pages count rows _ _ _ _ _ at) some)
     c.flush.ensures.steps.0.writes.crash.each)
+
+pub returns-then-tail-le-LONG_TAIL-clause-writes : goal.returns-then-tail-le-LONG_TAIL-clause-writes
+returns-then-tail-le-LONG_TAIL-clause-writes g c =
+    (keeps_none (λ d since. g.met.V.Volume.only_now c.args.volume.now d since), refl)
+
+pub returns-in_err-flush-clause-writes : goal.returns-in_err-flush-clause-writes
+returns-in_err-flush-clause-writes g c =
+    let stays = c.flush.ensures.steps in (writes_weaker stays.0.writes (λ d e keeps. keeps) (λ d e step. step.others), stays.1)
+
+pub returns-clause-writes : goal.returns-clause-writes
+returns-clause-writes g c =
+    let stays = c.flush.ensures.steps in (writes_weaker stays.0.writes (λ d e keeps. keeps) (λ d e step. step.others), stays.1)

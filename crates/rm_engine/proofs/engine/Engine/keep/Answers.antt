@@ -10,6 +10,7 @@ use Rattle.rm_engine.specs.Numbers.{IsReady, HasRoom, txn_of_next}
 use Rattle.rm_engine.proofs.Flushes.{holds_now, at_begun, at_inserted, tails_closing, holds_in_commit, at_committed}
 use Rattle.rm_engine.proofs.Leaves.{both}
 use Rattle.rm_engine.proofs.Kept.{changes_at, left_by_commit, stays_begin, stays_insert, stays_commit, at_stays, at_known}
+use Rattle.rm_outside.proofs.CallLemmas.{keeps_none}
 use Rattle.rm_engine.proofs.engine.Engine.keep.Goals as goal
 
 -- a begin
@@ -144,3 +145,19 @@ returns-in_default-3-clause-any_moment g c pages count rows at =
 pub returns-in_default-4-clause-any_moment : goal.returns-in_default-4-clause-any_moment
 returns-in_default-4-clause-any_moment g c pages count rows at =
     started _ _ _ (λ d since. inl (holds_now pages count rows _ _ _ _ _ at d (g.met.V.Volume.only_now c.args.volume.now d since)))
+
+pub returns-in-Begin-Began-clause-writes : goal.returns-in-Begin-Began-clause-writes
+returns-in-Begin-Began-clause-writes g c =
+    (keeps_none (λ d since. g.met.V.Volume.only_now c.args.volume.now d since), refl)
+
+pub returns-in_err-lsn-in-Insert-Inserted-clause-writes : goal.returns-in_err-lsn-in-Insert-Inserted-clause-writes
+returns-in_err-lsn-in-Insert-Inserted-clause-writes g c =
+    (keeps_none (λ d since. g.met.V.Volume.only_now c.args.volume.now d since), refl)
+
+pub returns-in_ok-lsn-in-Insert-Inserted-clause-writes : goal.returns-in_ok-lsn-in-Insert-Inserted-clause-writes
+returns-in_ok-lsn-in-Insert-Inserted-clause-writes g c =
+    (keeps_none (λ d since. g.met.V.Volume.only_now c.args.volume.now d since), refl)
+
+pub returns-in_default-clause-writes : goal.returns-in_default-clause-writes
+returns-in_default-clause-writes g c =
+    (keeps_none (λ d since. g.met.V.Volume.only_now c.args.volume.now d since), refl)

@@ -8,6 +8,7 @@ use Rattle.rm_outside.specs.Moments.{weaker}
 use Rattle.rm_outside.specs.Calls.{IsFaultIn}
 use Rattle.rm_outside.proofs.FaultLemmas.{Rises-before}
 use Rattle.rm_engine.proofs.Turned.{at_renamed, left_by_parts}
+use Rattle.rm_outside.proofs.CallLemmas.{keeps_then}
 use Rattle.rm_engine.proofs.engine.Engine.turn.Goals as goal
 
 pub returns-in_err-make_room-clause-any_moment : goal.returns-in_err-make_room-clause-any_moment
@@ -41,3 +42,11 @@ pub returns-in_err-keep-clause-cause : goal.returns-in_err-keep-clause-cause
 returns-in_err-keep-clause-cause g c = λ f is.
     let passed = err_from_is_err_and c.from_residual-in_err-keep.result c.from_residual-in_err-keep.ensures.1 in
     fault_before Log _ _ _ f c.make_room.ensures.counts (c.in_err-keep.ensures.cause f cc)
+
+pub returns-in_err-keep-clause-writes : goal.returns-in_err-keep-clause-writes
+returns-in_err-keep-clause-writes g c =
+    let room = c.make_room.ensures.writes in let keep = c.keep.ensures.writes in (keeps_then room.0 keep.0, keep.1 ∙ room.1)
+
+pub returns-clause-writes : goal.returns-clause-writes
+returns-clause-writes g c =
+    let room = c.make_room.ensures.writes in let keep = c.keep.ensures.writes in (keeps_then room.0 keep.0, keep.1 ∙ room.1)
