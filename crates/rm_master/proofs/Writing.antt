@@ -22,11 +22,13 @@ fresh-IsFields pages some few = record {
 }
 
 -- a write of the parity byte leaves the slots
-pub slot_kept : (slot parity : ℕ) (old new : Image) (bytes : List ℕ) → Torn Master PARITY_AT (parity ∷ []) old new → Shows (old Master) (slot_at slot) bytes → Shows (new Master) (slot_at slot) bytes
+pub slot_kept : (slot parity : ℕ) (old new : Image) (bytes : List ℕ) → Torn Master PARITY_AT (parity ∷ []) old new
+    → Shows (old Master) (slot_at slot) bytes → Shows (new Master) (slot_at slot) bytes
 slot_kept slot parity old new bytes torn shown = record { each = λ k below. torn.after (slot_at slot + k) (omega arith) ∙ shown.each k below }
 
 -- a slot and the parity byte that names it
-pub named_slot : (slot : ℕ) (area : Bytes) (fields : Fields) → IsFields fields → current area ≡ slot → Shows area (slot_at slot) (slot_bytes fields) → HasSlot area fields
+pub named_slot : (slot : ℕ) (area : Bytes) (fields : Fields) → IsFields fields → current area ≡ slot
+    → Shows area (slot_at slot) (slot_bytes fields) → HasSlot area fields
 named_slot slot area fields rules names shown = record {
   rules = rules;
   slot = let P : ℕ → Type 0 = λ n. Shows area (slot_at n) (slot_bytes fields) in subst P (sym names) shown;
@@ -37,7 +39,9 @@ torn_others : (at : ℕ) (bytes : List ℕ) (old new : Image) → Torn Master at
 torn_others at bytes old new torn = record { each = torn.areas }
 
 -- a write of the other slot leaves the current one
-pub stands_on : (slot : ℕ) (fields next : Fields) (old new : Image) → slot < 2 → Torn Master (slot_at (1 - slot)) (slot_bytes next) old new → Stands slot fields (old Master) → Stands slot fields (new Master)
+pub stands_on : (slot : ℕ) (fields next : Fields) (old new : Image) → slot < 2
+    → Torn Master (slot_at (1 - slot)) (slot_bytes next) old new → Stands slot fields (old Master)
+    → Stands slot fields (new Master)
 stands_on slot fields next old new small torn stands =
     let len = length-slot_bytes next in
     let front : (k : ℕ) → k < 64 → new Master k ≡ old Master k = λ k below. torn.before k (omega arith) in
@@ -62,14 +66,16 @@ stands_on slot fields next old new small torn stands =
     ]
 
 -- so it goes to either
-pub slot_goes : (slot : ℕ) (fields next : Fields) (old new : Image) → slot < 2 → Torn Master (slot_at (1 - slot)) (slot_bytes next) old new → Stands slot fields (old Master) → GoesTo fields next old new
+pub slot_goes : (slot : ℕ) (fields next : Fields) (old new : Image) → slot < 2
+    → Torn Master (slot_at (1 - slot)) (slot_bytes next) old new → Stands slot fields (old Master) → GoesTo fields next old new
 slot_goes slot fields next old new small torn stands = record {
   others = torn_others _ _ _ _ torn;
   master = inl (stands_on slot fields next old new small torn stands).has;
 }
 
 -- whatever the parity byte is, it names the old slot or the next one
-pub parity_goes : (slot : ℕ) (fields next : Fields) (old new : Image) → slot < 2 → IsFields next → Torn Master PARITY_AT ((1 - slot) ∷ []) old new → Stands slot fields (old Master)
+pub parity_goes : (slot : ℕ) (fields next : Fields) (old new : Image) → slot < 2 → IsFields next
+    → Torn Master PARITY_AT ((1 - slot) ∷ []) old new → Stands slot fields (old Master)
     → Shows (old Master) (slot_at (1 - slot)) (slot_bytes next) → HasFields (new Master) fields ⊎ HasFields (new Master) next
 parity_goes slot fields next old new small rules torn stands shown = elim (cases_eq (current (new Master)) slot) [
   | inl is_old ↦ inl (record { made = made; rules = stands.has.rules; slot = (named_slot slot (new Master) fields stands.has.rules is_old (slot_kept slot _ old new _ torn at_slot)).slot })
@@ -85,7 +91,8 @@ parity_goes slot fields next old new small rules torn stands shown = elim (cases
     at_slot = let P : ℕ → Type 0 = λ n. Shows (old Master) (slot_at n) (slot_bytes fields) in subst P stands.is_current stands.has.slot
 
 -- the calls of a master's write
-module _ (slot : ℕ) (fields next : Fields) (small : slot < 2) (rules : IsFields next) {a b : Facts} (stand : (c : Image) → a.may_leave c → Stands slot fields (c Master))
+module _ (slot : ℕ) (fields next : Fields) (small : slot < 2) (rules : IsFields next) {a b : Facts}
+    (stand : (c : Image) → a.may_leave c → Stands slot fields (c Master))
     (first : Writing (Torn Master (slot_at (1 - slot)) (slot_bytes next)) (Torn Master (slot_at (1 - slot)) (slot_bytes next)) a b) where
   goes_first : (c : Image) → ComesBy (Torn Master (slot_at (1 - slot)) (slot_bytes next)) a.may_leave c → ComesBy (GoesTo fields next) a.may_leave c
   goes_first c (d, was, torn) = (d, was, slot_goes slot fields next d c small torn (stand d was))
@@ -100,13 +107,13 @@ module _ (slot : ℕ) (fields next : Fields) (small : slot < 2) (rules : IsField
   }
 
   -- and after the parity byte is
-  module _ {e : Facts} (shown : (c : Image) → b.may_leave c → Shows (c Master) (slot_at (1 - slot)) (slot_bytes next)) (second : Writing (Torn Master PARITY_AT ((1 - slot) ∷ [])) (Torn Master PARITY_AT ((1 - slot) ∷ [])) b e) where
+  module _ {e : Facts} (shown : (c : Image) → b.may_leave c → Shows (c Master) (slot_at (1 - slot)) (slot_bytes next))
+      (second : Writing (Torn Master PARITY_AT ((1 - slot) ∷ [])) (Torn Master PARITY_AT ((1 - slot) ∷ [])) b e) where
     goes_second : (c : Image) → ComesBy (Torn Master PARITY_AT ((1 - slot) ∷ [])) b.may_leave c → ComesBy (GoesTo fields next) a.may_leave c
     goes_second c (half, now, torn) =
         let before = first.crash.each half now in
-        let d = before.0 in
-        let stands = stands_on slot fields next d half small before.2 (stand d before.1) in (
-          d,
+        let stands = stands_on slot fields next before.0 half small before.2 (stand before.0 before.1) in (
+          before.0,
           before.1,
           record {
             others = record { each = λ other ne. torn.areas other ne ∙ before.2.areas other ne };

@@ -48,7 +48,8 @@ module _ {data_read log_read : Bool} where
   pub counts_none : {a : Facts} → Counts data_read log_read a a
   counts_none = record { faults = λ area. omega arith; blocks = stays data_read _; log_bytes = stays log_read _ }
 
-  pub counts_then : {a b c : Facts} → Counts data_read log_read a b → Counts data_read log_read b c → Counts data_read log_read a c
+  pub counts_then : {a b c : Facts} → Counts data_read log_read a b → Counts data_read log_read b c
+      → Counts data_read log_read a c
   counts_then one other = record {
     faults = λ area. omega (arith, one.faults area, other.faults area);
     blocks = stays_then data_read _ _ _ one.blocks other.blocks;
@@ -56,7 +57,11 @@ module _ {data_read log_read : Bool} where
   }
 
   pub counts_as : {a b : Facts} → Counts false false a b → Counts data_read log_read a b
-  counts_as none = record { faults = none.faults; blocks = stays_as data_read _ _ none.blocks; log_bytes = stays_as log_read _ _ none.log_bytes }
+  counts_as none = record {
+    faults = none.faults;
+    blocks = stays_as data_read _ _ none.blocks;
+    log_bytes = stays_as log_read _ _ none.log_bytes;
+  }
 
   -- ---- calls that only read
 
@@ -70,8 +75,10 @@ module _ {data_read log_read : Bool} where
   }
 
   -- one call
-  pub reads_once : {a b : Facts} → ((c : Image) → a.left_since a.moment c → a.may_leave c) → b.content ≡ a.content → AddsNone a.may_leave b.may_leave
-      → Elapses a.moment b.moment a.left_since b.left_since b.may_leave → Counts data_read log_read a b → Reading data_read log_read a b
+  pub reads_once : {a b : Facts} → ((c : Image) → a.left_since a.moment c → a.may_leave c) → b.content ≡ a.content
+      → AddsNone a.may_leave b.may_leave
+      → Elapses a.moment b.moment a.left_since b.left_since b.may_leave → Counts data_read log_read a b
+      → Reading data_read log_read a b
   reads_once only_now same added time counts = record {
     content = same;
     crash = added;
@@ -80,7 +87,8 @@ module _ {data_read log_read : Bool} where
   }
 
   -- some calls, and then others
-  pub reads_then : {a b c : Facts} → Reading data_read log_read a b → Reading data_read log_read b c → Reading data_read log_read a c
+  pub reads_then : {a b c : Facts} → Reading data_read log_read a b → Reading data_read log_read b c
+      → Reading data_read log_read a c
   reads_then one other = record {
     content = other.content ∙ one.content;
     crash = record { each = λ c now. one.crash.each c (other.crash.each c now) };
@@ -98,13 +106,15 @@ synced_on reads synced = λ c now. synced c (reads.crash.each c now) ∙ sym rea
 
 -- ---- calls that write
 
-comes_then : {step : Image → Image → Type 0} {old mid : Image → Type 0} → Follows step old mid → ((c d e : Image) → step c d → step d e → step c e)
+comes_then : {step : Image → Image → Type 0} {old mid : Image → Type 0} → Follows step old mid
+    → ((c d e : Image) → step c d → step d e → step c e)
     → (e : Image) → ComesBy step mid e → ComesBy step old e
 comes_then follows trans e (d, left, last) = let before = follows.each d left in (before.0, before.1, trans _ _ _ before.2 last)
 
 module _ {change step : Image → Image → Type 0} where
   -- one call, where the step may also change nothing
-  pub writes_once : {a b : Facts} → ((c : Image) → a.left_since a.moment c → a.may_leave c) → ((c : Image) → step c c) → change a.content b.content → Follows step a.may_leave b.may_leave
+  pub writes_once : {a b : Facts} → ((c : Image) → a.left_since a.moment c → a.may_leave c) → ((c : Image) → step c c)
+      → change a.content b.content → Follows step a.may_leave b.may_leave
       → Elapses a.moment b.moment a.left_since b.left_since b.may_leave → Counts false false a b → Writing change step a b
   writes_once only_now still content follows time counts = record {
     content = content;
@@ -123,7 +133,8 @@ module _ {change step : Image → Image → Type 0} where
   }
 
   -- syncs, and then a write
-  pub synced_writes : {a b c : Facts} → Reading false false a b → Writing change step b c → ((c : Image) → step c c) → Writing change step a c
+  pub synced_writes : {a b c : Facts} → Reading false false a b → Writing change step b c → ((c : Image) → step c c)
+      → Writing change step a c
   synced_writes syncs written still = record {
     content = rw (← syncs.content) written.content;
     crash = record { each = λ c now. let d = written.crash.each c now in (d.0, syncs.crash.each d.0 d.1, d.2) };
@@ -132,7 +143,8 @@ module _ {change step : Image → Image → Type 0} where
   }
 
   -- a change and a step that are of another kind too
-  pub writes_weaker : {other_change other_step : Image → Image → Type 0} {a b : Facts} → Writing change step a b → ((c d : Image) → change c d → other_change c d)
+  pub writes_weaker : {other_change other_step : Image → Image → Type 0} {a b : Facts} → Writing change step a b
+      → ((c d : Image) → change c d → other_change c d)
       → ((c d : Image) → step c d → other_step c d) → Writing other_change other_step a b
   writes_weaker written changes holds = record {
     content = changes _ _ written.content;
@@ -143,7 +155,8 @@ module _ {change step : Image → Image → Type 0} where
 
 module _ {step : Image → Image → Type 0} where
   -- no call, where the step may change nothing
-  pub writes_none : {a : Facts} → ((c : Image) → a.left_since a.moment c → a.may_leave c) → ((c : Image) → step c c) → Writing step step a a
+  pub writes_none : {a : Facts} → ((c : Image) → a.left_since a.moment c → a.may_leave c) → ((c : Image) → step c c)
+      → Writing step step a a
   writes_none {a} only_now still = record {
     content = still a.content;
     crash = record { each = λ c now. (c, now, still c) };
@@ -161,7 +174,8 @@ module _ {step : Image → Image → Type 0} where
   }
 
   -- a write, and then another
-  pub writes_then : {a b c : Facts} → Writing step step a b → Writing step step b c → ((c d e : Image) → step c d → step d e → step c e) → Writing step step a c
+  pub writes_then : {a b c : Facts} → Writing step step a b → Writing step step b c
+      → ((c d e : Image) → step c d → step d e → step c e) → Writing step step a c
   writes_then one other trans = record {
     content = trans _ _ _ one.content other.content;
     crash = record { each = λ c now. comes_then one.crash trans c (other.crash.each c now) };
@@ -170,7 +184,8 @@ module _ {step : Image → Image → Type 0} where
   }
 
 -- an area that no step changes stays durable
-pub durable_on : {change step : Image → Image → Type 0} {area : Area} {a b : Facts} → Writing change step a b → ((c d : Image) → change c d → d area ≡ c area)
+pub durable_on : {change step : Image → Image → Type 0} {area : Area} {a b : Facts} → Writing change step a b
+    → ((c d : Image) → change c d → d area ≡ c area)
     → ((c d : Image) → step c d → d area ≡ c area) → IsDurable area a.content a.may_leave → IsDurable area b.content b.may_leave
 durable_on written content_stays stays durable = record {
   each = λ c now. let d = written.crash.each c now in stays _ _ d.2 ∙ durable.each d.0 d.1 ∙ sym (content_stays _ _ written.content);

@@ -18,6 +18,10 @@ Rises-before a b c ab (inl rose) = inl (omega arith)
 Rises-before a b c ab (inr last) = inr last
 
 -- a fault in an area, as an equation
-pub fault_is : (area : Area) (before after : Area → ℕ) (f : Fault) → IsFaultIn area before after f → (f ≡ fault.Volume area) × Rises (before area) (after area)
-fault_is area before after (fault.Volume other) (is, rose) = (ap (λ (a : Area). fault.Volume a) is, subst (λ (a : Area). Rises (before a) (after a)) is rose)
+pub fault_is : (area : Area) (before after : Area → ℕ) (f : Fault) → IsFaultIn area before after f
+    → (f ≡ fault.Volume area) × Rises (before area) (after area)
+fault_is area before after (fault.Volume other) (is, rose) = (
+  ap (λ (a : Area). fault.Volume a) is,
+  subst (λ (a : Area). Rises (before a) (after a)) is rose,
+)
 fault_is area before after (fault.Damaged other at) in_area = absurd in_area

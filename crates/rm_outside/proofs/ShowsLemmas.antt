@@ -15,7 +15,8 @@ shows_front first second shown = record {
 }
 
 -- the ones after them
-pub shows_back : {area : Bytes} {at : ℕ} (first second : List ℕ) → Shows area at (first ++ second) → Shows area (at + length first) second
+pub shows_back : {area : Bytes} {at : ℕ} (first second : List ℕ) → Shows area at (first ++ second)
+    → Shows area (at + length first) second
 shows_back {area} {at} first second shown = record {
   each = λ k lt.
       let within : length first + k < length (first ++ second) = omega (arith, length-append first second) in
@@ -25,7 +26,8 @@ shows_back {area} {at} first second shown = record {
 }
 
 -- both together
-pub shows_both : {area : Bytes} {at : ℕ} (first second : List ℕ) → Shows area at first → Shows area (at + length first) second → Shows area at (first ++ second)
+pub shows_both : {area : Bytes} {at : ℕ} (first second : List ℕ) → Shows area at first → Shows area (at + length first) second
+    → Shows area at (first ++ second)
 shows_both {area} {at} first second front back = record {
   each = λ k lt. both k (omega (arith, length-append first second));
 }
@@ -42,5 +44,6 @@ shows_both {area} {at} first second front back = record {
     ]
 
 -- lists of one length that stand at one place are the same
-pub shows_once : {area : Bytes} {at : ℕ} (first second : List ℕ) → Shows area at first → Shows area at second → length first ≡ length second → first ≡ second
+pub shows_once : {area : Bytes} {at : ℕ} (first second : List ℕ) → Shows area at first → Shows area at second
+    → length first ≡ length second → first ≡ second
 shows_once first second one other same = ext_get_or 0 first second same (λ k lt. sym (one.each k lt) ∙ other.each k (omega arith))

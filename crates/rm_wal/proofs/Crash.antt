@@ -12,6 +12,10 @@ record IsStaged (gate : ℕ) (written : List ℕ) (left : Image → Type 0) (c :
   comes : ComesByFlush gate written left c
   shown : Shows (c Log) (gate + 1) written
 
+-- a byte of an image that has the log of the content, which stayed
+byte_of : (c : Image) {content was : Image} (k : ℕ) → c Log ≡ content Log → content ≡ was → c Log k ≡ was Log k
+byte_of c k same stayed = ap (λ (area : ℕ → ℕ). area k) same ∙ ap (λ (image : Image). image Log k) stayed
+
 module _ {gate : ℕ} {written : List ℕ} where
   tail_torn : (c d : Image) → Torn Log (gate + 1) written c d → FlushStep gate written c d
   tail_torn c d torn = record {
@@ -21,17 +25,22 @@ module _ {gate : ℕ} {written : List ℕ} where
   }
 
   -- the tail is written, in part or whole, after a gate that is as it was
-  pub tail_written : {a b : Facts} → Writing (Torn Log (gate + 1) written) (Torn Log (gate + 1) written) a b → Writing (FlushStep gate written) (FlushStep gate written) a b
+  pub tail_written : {a b : Facts} → Writing (Torn Log (gate + 1) written) (Torn Log (gate + 1) written) a b
+      → Writing (FlushStep gate written) (FlushStep gate written) a b
   tail_written writes = writes_weaker writes tail_torn tail_torn
 
-  pub others_stay : {a b : Facts} → Writing (FlushStep gate written) (FlushStep gate written) a b → Writing (KeepsOthers Log) (FlushStep gate written) a b
+  pub others_stay : {a b : Facts} → Writing (FlushStep gate written) (FlushStep gate written) a b
+      → Writing (KeepsOthers Log) (FlushStep gate written) a b
   others_stay writes = writes_weaker writes (λ c d step. step.others) (λ c d step. step)
 
   -- the gate is torn before a tail that is durable
-  gate_torn : {left half : Image → Type 0} → ((c : Image) → half c → IsStaged gate written left c) → (c : Image) → ComesBy (Torn Log gate (1 ∷ [])) half c → IsStaged gate written left c
+  gate_torn : {left half : Image → Type 0} → ((c : Image) → half c → IsStaged gate written left c) → (c : Image)
+      → ComesBy (Torn Log gate (1 ∷ [])) half c → IsStaged gate written left c
   gate_torn staged c (d, was, torn) =
       let before = staged d was in
-      let shown : Shows (c Log) (gate + 1) written = record { each = λ k lt. torn.after (gate + 1 + k) (omega arith) ∙ before.shown.each k lt } in
+      let shown : Shows (c Log) (gate + 1) written = record {
+        each = λ k lt. torn.after (gate + 1 + k) (omega arith) ∙ before.shown.each k lt;
+      } in
       let step = before.comes.2 in
       record {
         comes = (
@@ -47,8 +56,9 @@ module _ {gate : ℕ} {written : List ℕ} where
       }
 
   -- The tail is written and synced, and then the gate is written. The bytes stand where the volume models its content.
-  module _ {models : Type 0} {a b c d : Facts} (writes : Writing (Torn Log (gate + 1) written) (Torn Log (gate + 1) written) a b) (bytes : models → Shows (b.content Log) (gate + 1) written)
-      (syncs : Reading false false b c) (durable : IsDurable Log c.content c.may_leave) (only : (x : Image) → c.may_leave x → models)
+  module _ {models : Type 0} {a b c d : Facts} (writes : Writing (Torn Log (gate + 1) written) (Torn Log (gate + 1) written) a b)
+      (bytes : models → Shows (b.content Log) (gate + 1) written) (syncs : Reading false false b c)
+      (durable : IsDurable Log c.content c.may_leave) (only : (x : Image) → c.may_leave x → models)
       (opens : Writing (Torn Log gate (1 ∷ [])) (Torn Log gate (1 ∷ [])) c d) where
     tail : Writing (FlushStep gate written) (FlushStep gate written) a c
     tail = writes_synced (tail_written writes) syncs
@@ -56,7 +66,7 @@ module _ {gate : ℕ} {written : List ℕ} where
     staged : (x : Image) → c.may_leave x → IsStaged gate written a.may_leave x
     staged x now = record {
       comes = tail.crash.each x now;
-      shown = record { each = λ k lt. ap (λ (area : ℕ → ℕ). area (gate + 1 + k)) (durable.each x now) ∙ ap (λ (image : Image). image Log (gate + 1 + k)) syncs.content ∙ (bytes (only x now)).each k lt };
+      shown = record { each = λ k lt. byte_of x (gate + 1 + k) (durable.each x now) syncs.content ∙ (bytes (only x now)).each k lt };
     }
 
     pub gate_written : Writing (KeepsOthers Log) (FlushStep gate written) a d
@@ -69,9 +79,10 @@ module _ {gate : ℕ} {written : List ℕ} where
 
     -- and synced
     module _ {e : Facts} (last : Reading false false d e) where
-      pub gate_opened : (models → Shows (d.content Log) gate (1 ∷ [])) → ((x : Image) → e.may_leave x → models) → IsDurable Log e.content e.may_leave
+      pub gate_opened : (models → Shows (d.content Log) gate (1 ∷ [])) → ((x : Image) → e.may_leave x → models)
+          → IsDurable Log e.content e.may_leave
           → (x : Image) → e.may_leave x → IsFlushed gate written x
       gate_opened byte modelled synced x now =
           let here : gate ≡ gate + 0 = omega arith in
-          let opened = ap (λ (area : ℕ → ℕ). area gate) (synced.each x now) ∙ ap (λ (image : Image). image Log gate) last.content ∙ ap (d.content Log) here ∙ (byte (modelled x now)).each 0 (omega arith) in
+          let opened = byte_of x gate (synced.each x now) last.content ∙ ap (d.content Log) here ∙ (byte (modelled x now)).each 0 (omega arith) in
           record { opened = opened; shown = (gate_torn staged x (opens.crash.each x (last.crash.each x now))).shown }

@@ -29,12 +29,15 @@ stands_on old new (batch ∷ batches) same stands = (
 )
 
 -- the old log, where the gate is not open
-pub log_stays : (old new : Bytes) (batches : List Batch) → HasLog old batches → Agree old new (gate_of batches) → (new (gate_of batches) ≡ 1 → ⊥) → HasLog new batches
+pub log_stays : (old new : Bytes) (batches : List Batch) → HasLog old batches → Agree old new (gate_of batches)
+    → (new (gate_of batches) ≡ 1 → ⊥) → HasLog new batches
 log_stays old new batches has same shut = record { stands = stands_on old new batches same has.stands; closed = shut }
 
 -- one batch more, where it is open and the batch stands after it, with a closed gate after that
-pub log_grows : (old new : Bytes) (batches : List Batch) (batch : Batch) → HasLog old batches → Agree old new (gate_of batches) → IsBatch (gate_of batches) batch
-    → new (gate_of batches) ≡ 1 → Shows new (gate_of batches + 1) (written_tail (spelling_all batch)) → HasLog new (batch ∷ batches)
+pub log_grows : (old new : Bytes) (batches : List Batch) (batch : Batch) → HasLog old batches → Agree old new (gate_of batches)
+    → IsBatch (gate_of batches) batch
+    → new (gate_of batches) ≡ 1 → Shows new (gate_of batches + 1) (written_tail (spelling_all batch))
+    → HasLog new (batch ∷ batches)
 log_grows old new batches batch has same is opened shown =
     let whole : Shows new (gate_of batches + 1) (body_of batch ++ 0 ∷ []) =
     subst (Shows new (gate_of batches + 1)) (sym (append_assoc (to_be_bytes w32 (length (spelling_all batch))) (spelling_all batch) (0 ∷ []))) shown in
@@ -48,14 +51,17 @@ log_grows old new batches batch has same is opened shown =
     }
 
 -- at any moment of a flush the log is the old one, or that with the batch
-pub log_of_step : (old new : Image) (batches : List Batch) (batch : Batch) → HasLog (old Log) batches → IsBatch (gate_of batches) batch
-    → FlushStep (gate_of batches) (written_tail (spelling_all batch)) old new → HasLog (new Log) batches ⊎ HasLog (new Log) (batch ∷ batches)
+pub log_of_step : (old new : Image) (batches : List Batch) (batch : Batch) → HasLog (old Log) batches
+    → IsBatch (gate_of batches) batch
+    → FlushStep (gate_of batches) (written_tail (spelling_all batch)) old new
+    → HasLog (new Log) batches ⊎ HasLog (new Log) (batch ∷ batches)
 log_of_step old new batches batch has is step = elim (cases_eq (new Log (gate_of batches)) 1) [
   | inl opened ↦ go opened step.gate_is
   | inr shut ↦ inl (log_stays (old Log) (new Log) batches has step.below shut)
 ]
   where
-    go : new Log (gate_of batches) ≡ 1 → (new Log (gate_of batches) ≡ old Log (gate_of batches)) ⊎ Shows (new Log) (gate_of batches + 1) (written_tail (spelling_all batch))
+    go : new Log (gate_of batches) ≡ 1
+        → (new Log (gate_of batches) ≡ old Log (gate_of batches)) ⊎ Shows (new Log) (gate_of batches + 1) (written_tail (spelling_all batch))
         → HasLog (new Log) batches ⊎ HasLog (new Log) (batch ∷ batches)
     go opened (inl same) = absurd (has.closed (sym same ∙ opened))
     go opened (inr shown) = inr (log_grows (old Log) (new Log) batches batch has step.below is opened shown)
@@ -68,7 +74,8 @@ module _ (gate : ℕ) (tail : List ℕ) (left : Image → Type 0) (batches : Lis
     range = subst (λ (n : ℕ). IsInRange n (length (spelling_all batch))) tails.gate_is (subst (λ (l : List ℕ). IsInRange gate (length l)) tails.spelled range);
   }
 
-  step_is : (c : Image) (d : Image) → FlushStep gate (written_tail tail) d c → FlushStep (gate_of batches) (written_tail (spelling_all batch)) d c
+  step_is : (c : Image) (d : Image) → FlushStep gate (written_tail tail) d c
+      → FlushStep (gate_of batches) (written_tail (spelling_all batch)) d c
   step_is c d step =
       subst (λ (n : ℕ). FlushStep n (written_tail (spelling_all batch)) d c) tails.gate_is
       (subst (λ (l : List ℕ). FlushStep gate (written_tail l) d c) tails.spelled step)
@@ -77,28 +84,34 @@ module _ (gate : ℕ) (tail : List ℕ) (left : Image → Type 0) (batches : Lis
   pub either_log : (c : Image) → ComesByFlush gate (written_tail tail) left c → HasEither batches batch c
   either_log c (d, was, step) = log_of_step d c batches batch (tails.logs d was) is_batch (step_is c d step)
 
-  flushed_is : (c : Image) → IsFlushed gate (written_tail tail) c → IsFlushed (gate_of batches) (written_tail (spelling_all batch)) c
+  flushed_is : (c : Image) → IsFlushed gate (written_tail tail) c
+      → IsFlushed (gate_of batches) (written_tail (spelling_all batch)) c
   flushed_is c flushed =
       subst (λ (n : ℕ). IsFlushed n (written_tail (spelling_all batch)) c) tails.gate_is
       (subst (λ (l : List ℕ). IsFlushed gate (written_tail l) c) tails.spelled flushed)
 
   -- and it is the new one once the flush is done
-  pub new_log : (c : Image) → IsFlushed gate (written_tail tail) c → ComesByFlush gate (written_tail tail) left c → HasLog (c Log) (batch ∷ batches)
+  pub new_log : (c : Image) → IsFlushed gate (written_tail tail) c → ComesByFlush gate (written_tail tail) left c
+      → HasLog (c Log) (batch ∷ batches)
   new_log c flushed (d, was, comes) =
       let done = flushed_is c flushed in
       let step = step_is c d comes in
       log_grows (d Log) (c Log) batches batch (tails.logs d was) step.below is_batch done.opened done.shown
 
 -- what the calls of a flush did, of the whole log
-pub flushing : {log : LogValue} {old new : Facts} → Writing (KeepsOthers Log) (FlushStep log.batch (written_tail log.tail)) old new → IsInRange log.batch (length log.tail) → Flushing log old new
+pub flushing : {log : LogValue} {old new : Facts}
+    → Writing (KeepsOthers Log) (FlushStep log.batch (written_tail log.tail)) old new → IsInRange log.batch (length log.tail)
+    → Flushing log old new
 flushing writes range = record {
   writes = writes;
   logs = λ batches batch tails. weaker writes.time (either_log _ _ _ batches batch tails range);
 }
 
 -- and that it succeeded
-pub flush_done : {log : LogValue} {old new : Facts} → Writing (KeepsOthers Log) (FlushStep log.batch (written_tail log.tail)) old new → IsInRange log.batch (length log.tail)
-    → IsDurable Log new.content new.may_leave → ((c : Image) → new.may_leave c → IsFlushed log.batch (written_tail log.tail) c) → Done log old new
+pub flush_done : {log : LogValue} {old new : Facts}
+    → Writing (KeepsOthers Log) (FlushStep log.batch (written_tail log.tail)) old new → IsInRange log.batch (length log.tail)
+    → IsDurable Log new.content new.may_leave → ((c : Image) → new.may_leave c → IsFlushed log.batch (written_tail log.tail) c)
+    → Done log old new
 flush_done writes range synced flushed = record {
   synced = synced;
   flushed = λ some. flushed;

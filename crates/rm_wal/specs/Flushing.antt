@@ -47,7 +47,8 @@ pub record Tails (gate : ℕ) (tail : List ℕ) (left : Image → Type 0) (batch
 -- it. So the log of each image is the old one, or that with the tail as its newest batch. The other areas stay.
 pub record Flushing (log : LogValue) (old new : Facts) : Type 0 where
   pub writes : Writing (KeepsOthers Log) (FlushStep log.batch (written_tail log.tail)) old new
-  pub logs : (batches : List Batch) (batch : Batch) → Tails log.batch log.tail old.may_leave batches batch → AllLeft old new (HasEither batches batch)
+  pub logs : (batches : List Batch) (batch : Batch) → Tails log.batch log.tail old.may_leave batches batch
+      → AllLeft old new (HasEither batches batch)
 
 abbrev pub Flushes : {V : Type 0} → Ghosts V → LogValue → V → V → Type 0
 Flushes g log old new = Flushing log (facts_of g old) (facts_of g new) × IsSame g old new
