@@ -57,7 +57,7 @@ impl Stand {
     }
 
     /// What the lines are answered, up to the first that ends the session.
-    fn told(self, alloc: Global, lines: &[Line]) -> Result<String, Fail> {
+    fn replies(self, alloc: Global, lines: &[Line]) -> Result<String, Fail> {
         let mut text = Vec::new(alloc);
         let mut stand = self;
         for line in lines {
@@ -98,8 +98,8 @@ fn a_session_fits_exactly_or_ends(rt: HostRuntime) -> Result<(), Fail> {
         let script = read_plain(alloc, lines(alloc, script)?.as_bytes())?;
         let (limit, next) = (limit.parse::<u64>()?, next.parse::<u64>()?);
         assert!(rt; limit <= MAX_LOG && 1 <= next && next <= LAST + 1);
-        let told = Stand::new(alloc, limit, next)?.told(alloc, &script.lines)?;
-        assert_eq!(rt; told.as_str(), lines(alloc, due)?.as_str(), "{case}");
+        let replies = Stand::new(alloc, limit, next)?.replies(alloc, &script.lines)?;
+        assert_eq!(rt; replies.as_str(), lines(alloc, due)?.as_str(), "{case}");
     }
     Ok(())
 }

@@ -35,7 +35,7 @@ wrong 4|session 1;turns;finish 200000;finish 200000
 wrong 5|session 1;begin;turns;finish 200000;commit;";
 
 /// How a form reads a script, in the words of the tables.
-fn told(alloc: Global, is_turns: bool, text: &str) -> Result<String, Fail> {
+fn reading(alloc: Global, is_turns: bool, text: &str) -> Result<String, Fail> {
     let script = lines(alloc, text)?;
     let read = if is_turns {
         read_turns(alloc, script.as_bytes())
@@ -55,7 +55,7 @@ fn the_first_wrong_line_is_named(rt: HostRuntime) -> Result<(), Fail> {
         for row in table.split('\n') {
             let (due, texts) = row.split_once('|').ok_or("no script")?;
             for text in texts.split('|') {
-                assert_eq!(rt; told(rt.alloc(), is_turns, text)?.as_str(), due, "{text:?}");
+                assert_eq!(rt; reading(rt.alloc(), is_turns, text)?.as_str(), due, "{text:?}");
             }
         }
     }

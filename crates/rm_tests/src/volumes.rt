@@ -161,8 +161,8 @@ fn a_stop_in_a_commit_leaves_all_or_nothing(rt: HostRuntime) -> Result<(), Fail>
 /// One more call of the volume than a command of these makes.
 const CALLS: u64 = 21;
 
-/// A command that is done, whose n-th call of the volume failed if n is below CALLS: it prints `due` exactly if it was
-/// done, and after a crash an opening prints `after`, or `before` if it was not done.
+/// A command whose n-th call of the volume fails: its words, its script, what it prints once it is done, and what an
+/// opening prints before and after it. A crash leaves the latter, or the former where it was not done.
 fn check_call(
     rt: &impl Abort,
     alloc: Global,
@@ -183,7 +183,7 @@ fn check_call(
 }
 
 #[test]
-fn a_command_that_was_told_done_outlives_a_crash(rt: HostRuntime) -> Result<(), Fail> {
+fn a_command_that_was_acknowledged_outlives_a_crash(rt: HostRuntime) -> Result<(), Fail> {
     let alloc = rt.alloc();
     for n in 1..=CALLS {
         let create = ["create 4", "", "created 4\n", NOT_MADE, NO_RECORD];
