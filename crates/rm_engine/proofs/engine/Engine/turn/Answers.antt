@@ -41,7 +41,7 @@ fault_before area a b c (fault.Damaged other at) kept in_area = in_area
 pub returns-in_err-keep-clause-cause : goal.returns-in_err-keep-clause-cause
 returns-in_err-keep-clause-cause g c = λ f is.
     let passed = err_from_is_err_and c.from_residual-in_err-keep.result c.from_residual-in_err-keep.ensures.1 in
-    fault_before Log _ _ _ f c.make_room.ensures.counts (c.in_err-keep.ensures.cause f cc)
+    fault_before Log _ _ _ f c.make_room.ensures.writes.0.counts.faults (c.in_err-keep.ensures.cause f cc)
 
 pub returns-in_err-keep-clause-writes : goal.returns-in_err-keep-clause-writes
 returns-in_err-keep-clause-writes g c =
