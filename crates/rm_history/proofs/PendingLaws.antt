@@ -1,16 +1,16 @@
 -- Which changes are pending: whose they are, on which row ids, and in which order.
-use Rattle.std.proofs.Common.{◌≡◌, ◌⊎◌, inl, inr, ℕ, ◌<◌, Bool, cond, eqb, List, [], ◌∷◌, length, refl, sym, subst, ◌∙◌, arith}
+use Rattle.std.proofs.Common.{◌≡◌, ◌⊎◌, inl, inr, ℕ, ◌<◌, Bool, cond, eqb, List, [], ◌∷◌, length, refl, sym, ap, subst, ◌∙◌, arith}
 use Rattle.std.specs.List.{AllByRecursion}
 use Rattle.std.proofs.lemmas.Bool.{cond_both, eqb-true, cases_eq}
 use Rattle.rm_types.specs.declared.numbers.Rid.{Rid}
-use Rattle.rm_history.specs.Acts.{Act, Change, History, changes, undoes, enters, commits, ends, marks}
+use Rattle.rm_history.specs.Acts.{Act, Change, Finish, History, changes, undoes, enters, commits, ends, marks}
 use Rattle.rm_history.specs.Contents.{page_of}
 use Rattle.rm_history.specs.Pending.{older, pending_of}
 use Rattle.rm_history.specs.Transactions.{IsFinished, HasChange}
-use Rattle.rm_history.specs.Rules.{MayChange, IsInOrder}
+use Rattle.rm_history.specs.Rules.{MayChange, MayEnd, IsInOrder}
 use Rattle.rm_history.specs.Laws.{AreChained, IsChanged, PendingIsChained, PendingIsOfOne}
 use Rattle.rm_history.proofs.PendingInduction.{pending_by}
-use Rattle.rm_history.proofs.PendingSteps.{if_equal, pending-change_other, pending-undo_other, length-put, inside-put}
+use Rattle.rm_history.proofs.PendingSteps.{if_equal, pending-change_other, pending-undo_other, pending-end_other, length-put, inside-put}
 
 -- ---- changes among others
 
@@ -63,6 +63,13 @@ finished_has_none (ends f ∷ before) ordered txn (inl now) = if_equal f.txn txn
 finished_has_none (ends f ∷ before) ordered txn (inr earlier) =
     cond_both (eqb f.txn txn) [] (pending_of before txn) (λ l. l ≡ []) (λ is. refl) (λ is. finished_has_none before ordered.0 txn earlier)
 finished_has_none (marks m ∷ before) ordered txn finished = finished_has_none before ordered.0 txn finished
+
+-- the end of a rollback leaves what is pending
+pub pending-ended : (f : Finish) (before : History) (txn : ℕ) → MayEnd before f → pending_of (ends f ∷ before) txn ≡ pending_of before txn
+pending-ended f before txn may = elim (cases_eq f.txn txn) [
+  | inl same ↦ if_equal f.txn txn [] (pending_of before txn) same ∙ sym may.none ∙ ap (pending_of before) same
+  | inr different ↦ pending-end_other f before txn different
+]
 
 -- so a transaction with something pending is not finished
 pub changed_unfinished : (history : History) → IsInOrder history → (txn : ℕ) (rid : Rid) → IsChanged (pending_of history txn) rid → IsFinished history txn → ⊥

@@ -12,7 +12,7 @@ use Rattle.rm_history.specs.Legal.{IsLegal}
 use Rattle.rm_history.specs.Undoing.{AllUndone, Ended}
 use Rattle.rm_history.specs.UndoLaws.{IsUndone, RollbacksAreLegal, PartialRollbacksAreLegal}
 use Rattle.rm_history.proofs.Prefixes.{legal_is_in_order}
-use Rattle.rm_history.proofs.ChainSteps.{pending-ended}
+use Rattle.rm_history.proofs.PendingLaws.{pending-ended}
 use Rattle.rm_history.proofs.NeedSums.{finish_fits}
 use Rattle.rm_history.proofs.Following.{entries_follow_end}
 use Rattle.rm_history.proofs.UndoTheorem.{fits_in_order, entries_follow, no_undo_lacks_room}
