@@ -21,13 +21,13 @@ use Rattle.rm_history.specs.Undoing.{category_after, entry_for, undo_for, Settle
 use Rattle.rm_history.specs.UndoLaws.{IsUndone, RestartsAreLegal, RestartsCompensateAll, RestartsExist}
 use Rattle.rm_history.proofs.Prefixes.{legal_is_in_order}
 use Rattle.rm_history.proofs.PendingLaws.{changed_none}
-use Rattle.rm_history.proofs.Finished.{last_has_record}
+use Rattle.rm_history.proofs.Finished.{finished_or_not, last_has_record}
 use Rattle.rm_history.proofs.Chains.{last_is_inside, last_is_unfinished}
 use Rattle.rm_history.proofs.Holding.{pages_hold_what_is_committed, settled_when_nothing_is_pending}
 use Rattle.rm_history.proofs.UndoTheorem.{entries_follow, no_undo_lacks_room}
 use Rattle.rm_history.proofs.Rollbacks.{HasEnded, has_ended}
 use Rattle.rm_history.proofs.AllPending.{pending_of-newest, pending_of-none, without_newest-head}
-use Rattle.rm_history.proofs.Losers.{losers_rise, losers_are_all, losers_are_unfinished}
+use Rattle.rm_history.proofs.Losers.{losers_rise, losers_are_unfinished}
 
 -- ---- it can be made
 
@@ -283,14 +283,14 @@ restarts_are_legal format before new legal restarted =
     let mid : History = restarted.undone in
     let undone : AllAreUndone format before mid = all_are_undone format before mid (all_pending before) legal refl restarted.undoes_all in
     let unfinished : (txn : ℕ) → IsAmong (losers_of before) txn → IsFinished mid txn → ⊥ =
-    λ txn loses finished. losers_are_unfinished before (legal_is_in_order format before legal) txn loses (undone.no_more txn finished) in
+    λ txn loses finished. ((losers_are_unfinished.exact before (legal_is_in_order format before legal) txn).0 loses).1 (undone.no_more txn finished) in
     let over : AllHaveEnded format mid (losers_of before) new =
     all_have_ended format mid new (losers_of before) undone.legal (losers_rise before) unfinished (pending_of-none mid undone.none) restarted.ends_all in
     let none : (txn : ℕ) → pending_of new txn ≡ [] = λ txn. over.pending txn ∙ pending_of-none mid undone.none txn in
     let rows : rows_of_log new ≡ rows_of_log before = over.rows ∙ undone.rows in
-    let had : (txn : ℕ) → HasRecord before txn → IsFinished new txn = λ txn has. elim (losers_are_all before txn has) [
+    let had : (txn : ℕ) → HasRecord before txn → IsFinished new txn = λ txn has. elim (finished_or_not before txn) [
       | inl finished ↦ over.kept txn (undone.kept txn finished)
-      | inr loses ↦ over.finished txn loses
+      | inr not ↦ over.finished txn ((losers_are_unfinished.exact before (legal_is_in_order format before legal) txn).1 (has, not))
     ] in
     let ordered : IsInOrder new = legal_is_in_order format new over.legal in
     let pages : (page : ℕ) → page_of new page ≡ settled_of before page = λ page.

@@ -6,7 +6,7 @@ use Rattle.rm_types.specs.declared.slots.Slot.{Slot}
 use Rattle.rm_model.specs.Pages.{set_slot}
 use Rattle.rm_history.specs.Acts.{Change, History, undoes, enters, ends, newest_lsn}
 use Rattle.rm_history.specs.Contents.{page_of, category_of, entry_of}
-use Rattle.rm_history.specs.Pending.{of_txn, without_newest, without, all_pending}
+use Rattle.rm_history.specs.Pending.{pending_of, of_txn, without_newest, without, all_pending}
 use Rattle.rm_history.specs.Rules.{IsInOrder}
 use Rattle.rm_history.specs.Losers.{with_number, without_number, losers_of, IsAmong}
 use Rattle.rm_history.specs.Undoing.{category_after, entry_for, undo_for, Settles, Undone, Ended}
@@ -15,8 +15,8 @@ use Rattle.rm_history.specs.UndoBytes.{with_entry, with_undo, undoing_bytes, end
 use Rattle.rm_history.specs.UndoLaws.{UndoBytesGoDown}
 use Rattle.rm_history.proofs.Chains.{last_is_unfinished}
 use Rattle.rm_history.proofs.AllPending.{pending_of-newest, without_newest-head}
-use Rattle.rm_history.proofs.Losers.{losers_rise, losers_are_all, with_number-there, with_number-kept}
-use Rattle.rm_history.proofs.Restarts.{newest_has_record}
+use Rattle.rm_history.proofs.Losers.{losers_rise, losers_are_unfinished, with_number_among, with_number-kept}
+use Rattle.rm_history.proofs.Finished.{last_has_record}
 
 -- ---- what an undo leaves in pages and in the inventory
 
@@ -168,10 +168,10 @@ undo_bytes-loser format before new last rest among is undone =
 -- the newest of all that is pending is of a loser
 newest_is_of_loser : (history : History) (last : Change) (rest : List Change) → IsInOrder history → all_pending history ≡ last ∷ rest
     → IsAmong (losers_of history) last.txn
-newest_is_of_loser history last rest ordered is = elim (losers_are_all history last.txn (newest_has_record history last rest is)) [
-  | inl finished ↦ absurd (last_is_unfinished history ordered last.txn last (of_txn last.txn rest) (pending_of-newest history last rest is) finished)
-  | inr loses ↦ loses
-]
+newest_is_of_loser history last rest ordered is =
+    let mine : pending_of history last.txn ≡ last ∷ of_txn last.txn rest = pending_of-newest history last rest is in
+    (losers_are_unfinished.exact history ordered last.txn).1
+    (last_has_record history last.txn last (of_txn last.txn rest) mine, last_is_unfinished history ordered last.txn last (of_txn last.txn rest) mine)
 
 -- each undo takes its bytes, and those of the entry before it, from what is left
 pub undo_bytes-undone : (format : Format) (before new : History) (last : Change) (rest : List Change) → IsInOrder before
@@ -199,7 +199,7 @@ undo_bytes-entered format before last rest lsn ordered is wrong above =
     let all : undo_bytes format before ≡ entry_bytes format before last + bytes_of (compensate_record (undo_for 0 last)) + undo_bytes format new =
     undo_bytes-undone format before new last rest ordered is one in
     let less : undo_bytes format mid ≡ entry_bytes format mid last + bytes_of (compensate_record (undo_for 0 last)) + undo_bytes format new =
-    undo_bytes-loser format mid new last rest (with_number-there last.txn (losers_of before)) is two in
+    undo_bytes-loser format mid new last rest ((with_number_among last.txn last.txn (losers_of before)).1 (inl refl)) is two in
     omega (arith, wanted, none, all, less)
 
 -- and after all undo each end takes its own
