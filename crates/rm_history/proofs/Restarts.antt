@@ -1,5 +1,5 @@
 -- Restart's undo can be made of any history, and leaves a legal one, in which nothing is pending and the inventory is right.
-use Rattle.std.proofs.Common.{◌≡◌, ◌⊎◌, inl, inr, ℕ, suc, ◌+◌, ◌<◌, List, [], ◌∷◌, length, map, refl, sym, ap, subst, ◌∙◌, arith}
+use Rattle.std.proofs.Common.{◌≡◌, ◌⊎◌, inl, inr, ℕ, suc, ◌+◌, ◌<◌, ◌↔◌, List, [], ◌∷◌, length, map, refl, sym, ap, subst, ◌∙◌, arith}
 use Rattle.std.specs.List.{range_with_len}
 use Rattle.std.proofs.lemmas.Bool.{cases_eq, eq-eqb, ne_eqb}
 use Rattle.rm_types.specs.declared.formats.Format.{Format}
@@ -9,7 +9,7 @@ use Rattle.rm_model.proofs.Slots.{length-set_slot}
 use Rattle.rm_history.specs.Acts.{Change, Undo, History, undoes, enters, ends, newest_lsn}
 use Rattle.rm_model.specs.Pages.{slot_at}
 use Rattle.rm_history.specs.Contents.{slot_of, page_of, entry_of, category_of}
-use Rattle.rm_history.specs.Pending.{pending_of, of_txn, without_newest, all_pending}
+use Rattle.rm_history.specs.Pending.{pending_of, of_txn, all_pending}
 use Rattle.rm_history.specs.Transactions.{IsFinished, HasRecord}
 use Rattle.rm_history.specs.Rows.{rows_of_log, settled_of}
 use Rattle.rm_history.specs.Counts.{undo_count}
@@ -26,7 +26,8 @@ use Rattle.rm_history.proofs.Chains.{last_is_inside, last_is_unfinished}
 use Rattle.rm_history.proofs.Holding.{pages_hold_what_is_committed, settled_when_nothing_is_pending}
 use Rattle.rm_history.proofs.UndoTheorem.{entries_follow, no_undo_lacks_room}
 use Rattle.rm_history.proofs.Rollbacks.{HasEnded, has_ended}
-use Rattle.rm_history.proofs.AllPending.{pending_of-newest, pending_of-none, without_newest-head}
+use Rattle.rm_history.proofs.AllPending.{pending_of-newest, pending_of-none}
+use Rattle.rm_history.proofs.UndoSteps.{undone_either, all_pending_undone}
 use Rattle.rm_history.proofs.Losers.{losers_rise, losers_are_unfinished}
 
 -- ---- it can be made
@@ -73,11 +74,9 @@ restarts_exist format before =
 
 -- ---- all that is pending is undone
 
--- what one undo leaves: what is pending but its change, and the same transactions finished, and at the most one record more
+-- what one undo leaves: the same transactions finished, at the most one with a record more, and as many slots on each page
 record Leaves (before : History) (txn : ℕ) (new : History) : Type 0 where
-  pending : all_pending new ≡ without_newest (all_pending before) txn
-  kept : (any : ℕ) → IsFinished before any → IsFinished new any
-  no_more : (any : ℕ) → IsFinished new any → IsFinished before any
+  finished : (any : ℕ) → IsFinished new any ↔ IsFinished before any
   records : (any : ℕ) → HasRecord new any → (txn ≡ any) ⊎ HasRecord before any
   sizes : (page : ℕ) → length (page_of new page) ≡ length (page_of before page)
 
@@ -91,47 +90,29 @@ size_stays before u page inside = elim (cases_eq u.rid.page page) [
   | inr other ↦ rw (ne_eqb u.rid.page page other) refl
 ]
 
--- with the entry before it or without
-undo_leaves : (format : Format) (before settled : History) (last : Change) (lsn : ℕ) → last.rid.slot < length (page_of before last.rid.page)
-    → Settles format before last settled → Leaves before last.txn (undoes (undo_for lsn last) ∷ settled)
-undo_leaves format before settled last lsn inside (inl stays) =
-    subst (λ (h : History). Leaves before last.txn (undoes (undo_for lsn last) ∷ h)) (sym stays.1)
-    (record {
-      pending = refl;
-      kept = λ any finished. finished;
-      no_more = λ any finished. finished;
-      records = λ any has. has;
-      sizes = λ page. size_stays before (undo_for lsn last) page inside;
-    })
-undo_leaves format before settled last lsn inside (inr differs) =
-    subst (λ (h : History). Leaves before last.txn (undoes (undo_for lsn last) ∷ h)) (sym differs.1.2)
-    (record {
-      pending = refl;
-      kept = λ any finished. finished;
-      no_more = λ any finished. finished;
-      records = λ any has. elim has [ inl undone ↦ inl undone | inr earlier ↦ earlier ];
-      sizes = λ page. size_stays before (undo_for lsn last) page inside;
-    })
-
--- so each undo leaves that
 undone_leaves : (format : Format) (before new : History) (last : Change) → last.rid.slot < length (page_of before last.rid.page)
     → Undone format before last new → Leaves before last.txn new
 undone_leaves format before new last inside undone =
-    subst (Leaves before last.txn) (sym undone.new_is) (undo_leaves format before undone.settled last undone.lsn inside undone.settles)
+    undone_either format before new last (Leaves before last.txn) undone
+    (λ lsn right. record {
+      finished = λ any. (λ finished. finished, λ finished. finished);
+      records = λ any has. has;
+      sizes = λ page. size_stays before (undo_for lsn last) page inside;
+    })
+    (λ next lsn. record {
+      finished = λ any. (λ finished. finished, λ finished. finished);
+      records = λ any has. elim has [ inl undone ↦ inl undone | inr earlier ↦ earlier ];
+      sizes = λ page. size_stays before (undo_for lsn last) page inside;
+    })
 
 -- the history in which nothing is pending any more
 record AllAreUndone (format : Format) (before new : History) : Type 0 where
   legal : IsLegal format new
   none : all_pending new ≡ []
-  kept : (any : ℕ) → IsFinished before any → IsFinished new any
-  no_more : (any : ℕ) → IsFinished new any → IsFinished before any
+  finished : (any : ℕ) → IsFinished new any ↔ IsFinished before any
   records : (any : ℕ) → HasRecord new any → HasRecord before any
   rows : rows_of_log new ≡ rows_of_log before
   sizes : (page : ℕ) → length (page_of new page) ≡ length (page_of before page)
-
--- the transaction of the newest of all that is pending has a record
-pub newest_has_record : (history : History) (last : Change) (rest : List Change) → all_pending history ≡ last ∷ rest → HasRecord history last.txn
-newest_has_record history last rest is = last_has_record history last.txn last (of_txn last.txn rest) (pending_of-newest history last rest is)
 
 -- undoing these, which are all that is pending, gives that history
 all_are_undone : (format : Format) (before new : History) (all : List Change) → IsLegal format before → all_pending before ≡ all
@@ -141,8 +122,7 @@ all_are_undone format before new [] legal is undone =
     (record {
       legal = legal;
       none = is;
-      kept = λ any finished. finished;
-      no_more = λ any finished. finished;
+      finished = λ any. (λ finished. finished, λ finished. finished);
       records = λ any has. has;
       rows = refl;
       sizes = λ page. refl;
@@ -155,15 +135,17 @@ all_are_undone format before new (last ∷ rest) legal is undone =
     let one : IsUndone format before last.txn (of_txn last.txn rest) mid =
     no_undo_lacks_room format before mid last.txn last (of_txn last.txn rest) legal unfinished mine undone.1 in
     let left : Leaves before last.txn mid = undone_leaves format before mid last (last_is_inside before last.txn last (of_txn last.txn rest) mine) undone.1 in
-    let is_mid : all_pending mid ≡ rest = left.pending ∙ ap (λ (l : List Change). without_newest l last.txn) is ∙ without_newest-head last rest in
-    let more : AllAreUndone format mid new = all_are_undone format mid new rest one.legal is_mid undone.2 in
+    let more : AllAreUndone format mid new =
+    all_are_undone format mid new rest one.legal (all_pending_undone format before mid last rest is undone.1) undone.2 in
     record {
       legal = more.legal;
       none = more.none;
-      kept = λ any finished. more.kept any (left.kept any finished);
-      no_more = λ any finished. left.no_more any (more.no_more any finished);
+      finished = λ any. (
+        λ finished. (left.finished any).0 ((more.finished any).0 finished),
+        λ finished. (more.finished any).1 ((left.finished any).1 finished),
+      );
       records = λ any has. elim (left.records any (more.records any has)) [
-        | inl now ↦ subst (HasRecord before) now (newest_has_record before last rest is)
+        | inl now ↦ subst (HasRecord before) now (last_has_record before last.txn last (of_txn last.txn rest) mine)
         | inr earlier ↦ earlier
       ];
       rows = more.rows ∙ one.rows;
@@ -248,15 +230,12 @@ settled_alike history other page rows sizes =
 
 -- ---- a compensation for each pending change
 
-count_settled : (start : Format) (before settled : History) (last : Change) → Settles start before last settled → undo_count settled ≡ undo_count before
-count_settled start before settled last (inl stays) = ap undo_count stays.1
-count_settled start before settled last (inr differs) = ap undo_count differs.1.2
-
 count_undone : (start : Format) (before new : History) (all : List Change) → AllUndone start before all new → undo_count new ≡ undo_count before + length all
 count_undone start before new [] undone = omega (arith, ap undo_count undone)
 count_undone start before new (last ∷ rest) undone =
-    let one : Undone start before last undone.0 = undone.1 in
-    omega (arith, ap undo_count one.new_is, count_settled start before one.settled last one.settles, count_undone start undone.0 new rest undone.2)
+    let one : undo_count undone.0 ≡ undo_count before + 1 =
+    undone_either start before undone.0 last (λ h. undo_count h ≡ undo_count before + 1) undone.1 (λ lsn right. refl) (λ next lsn. refl) in
+    omega (arith, one, count_undone start undone.0 new rest undone.2)
 
 count_ended : (before new : History) (txns : List ℕ) → AllEnded before txns new → undo_count new ≡ undo_count before
 count_ended before new [] ended = ap undo_count ended
@@ -283,13 +262,13 @@ restarts_are_legal format before new legal restarted =
     let mid : History = restarted.undone in
     let undone : AllAreUndone format before mid = all_are_undone format before mid (all_pending before) legal refl restarted.undoes_all in
     let unfinished : (txn : ℕ) → IsAmong (losers_of before) txn → IsFinished mid txn → ⊥ =
-    λ txn loses finished. ((losers_are_unfinished.exact before (legal_is_in_order format before legal) txn).0 loses).1 (undone.no_more txn finished) in
+    λ txn loses finished. ((losers_are_unfinished.exact before (legal_is_in_order format before legal) txn).0 loses).1 ((undone.finished txn).0 finished) in
     let over : AllHaveEnded format mid (losers_of before) new =
     all_have_ended format mid new (losers_of before) undone.legal (losers_rise before) unfinished (pending_of-none mid undone.none) restarted.ends_all in
     let none : (txn : ℕ) → pending_of new txn ≡ [] = λ txn. over.pending txn ∙ pending_of-none mid undone.none txn in
     let rows : rows_of_log new ≡ rows_of_log before = over.rows ∙ undone.rows in
     let had : (txn : ℕ) → HasRecord before txn → IsFinished new txn = λ txn has. elim (finished_or_not before txn) [
-      | inl finished ↦ over.kept txn (undone.kept txn finished)
+      | inl finished ↦ over.kept txn ((undone.finished txn).1 finished)
       | inr not ↦ over.finished txn ((losers_are_unfinished.exact before (legal_is_in_order format before legal) txn).1 (has, not))
     ] in
     let ordered : IsInOrder new = legal_is_in_order format new over.legal in

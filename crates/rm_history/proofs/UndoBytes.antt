@@ -1,12 +1,12 @@
 -- The bytes that restart's undo will add to a log go down by those of each record that it adds.
-use Rattle.std.proofs.Common.{◌≡◌, inl, inr, ℕ, ◌+◌, ◌<◌, ◌==◌, if◌then◌else◌, cond, eqb, List, [], ◌∷◌, refl, sym, ap, subst, ◌∙◌, arith}
+use Rattle.std.proofs.Common.{◌≡◌, inl, inr, ℕ, ◌+◌, ◌<◌, ◌==◌, if◌then◌else◌, cond, eqb, List, [], ◌∷◌, refl, sym, ap, ◌∙◌, arith}
 use Rattle.std.proofs.lemmas.Bool.{cases_eq, eq-eqb, ne_eqb}
 use Rattle.rm_types.specs.declared.formats.Format.{Format}
 use Rattle.rm_types.specs.declared.slots.Slot.{Slot}
 use Rattle.rm_model.specs.Pages.{set_slot}
 use Rattle.rm_history.specs.Acts.{Change, History, undoes, enters, ends, newest_lsn}
 use Rattle.rm_history.specs.Contents.{page_of, category_of, entry_of}
-use Rattle.rm_history.specs.Pending.{pending_of, of_txn, without_newest, without, all_pending}
+use Rattle.rm_history.specs.Pending.{pending_of, of_txn, without, all_pending}
 use Rattle.rm_history.specs.Rules.{IsInOrder}
 use Rattle.rm_history.specs.Losers.{with_number, without_number, losers_of, IsAmong}
 use Rattle.rm_history.specs.Undoing.{category_after, entry_for, undo_for, Settles, Undone, Ended}
@@ -14,7 +14,8 @@ use Rattle.rm_history.specs.UndoBytes.{inventory_record, compensate_record, end_
 use Rattle.rm_history.specs.UndoBytes.{with_entry, with_undo, undoing_bytes, ending_bytes, undo_bytes}
 use Rattle.rm_history.specs.UndoLaws.{UndoBytesGoDown}
 use Rattle.rm_history.proofs.Chains.{last_is_unfinished}
-use Rattle.rm_history.proofs.AllPending.{pending_of-newest, without_newest-head}
+use Rattle.rm_history.proofs.AllPending.{pending_of-newest}
+use Rattle.rm_history.proofs.UndoSteps.{undone_either, all_pending_undone}
 use Rattle.rm_history.proofs.Losers.{losers_rise, losers_are_unfinished, with_number_among, with_number-kept}
 use Rattle.rm_history.proofs.Finished.{last_has_record}
 
@@ -46,19 +47,12 @@ entry_right format before last page right = elim (cases_eq last.rid.page page) [
   | inr other ↦ rw (ne_eqb last.rid.page page other)
 ]
 
--- the undo of a change, with the entry before it or without, leaves them
-done_by : (format : Format) (before settled : History) (last : Change) (lsn : ℕ) → Settles format before last settled
-    → IsDone format before last (undoes (undo_for lsn last) ∷ settled)
-done_by format before settled last lsn (inl stays) =
-    subst (λ (h : History). IsDone format before last (undoes (undo_for lsn last) ∷ h)) (sym stays.1)
-    (record { pages = λ page. refl; entries = λ page. entry_right format before last page stays.0 })
-done_by format before settled last lsn (inr differs) =
-    subst (λ (h : History). IsDone format before last (undoes (undo_for lsn last) ∷ h)) (sym differs.1.2)
-    (record { pages = λ page. refl; entries = λ page. refl })
-
--- so each undo leaves them
+-- the undo of a change leaves them
 done : (format : Format) (before new : History) (last : Change) → Undone format before last new → IsDone format before last new
-done format before new last undone = subst (IsDone format before last) (sym undone.new_is) (done_by format before undone.settled last undone.lsn undone.settles)
+done format before new last undone =
+    undone_either format before new last (IsDone format before last) undone
+    (λ lsn right. record { pages = λ page. refl; entries = λ page. entry_right format before last page right })
+    (λ next lsn. record { pages = λ page. refl; entries = λ page. refl })
 
 -- histories that are alike do not differ in the category after an undo
 category_alike : (format : Format) (history other : History) (last : Change) → AreAlike history other
@@ -126,34 +120,15 @@ undoing_bytes_alike format history other (last ∷ rest) alike =
 
 -- ---- what is left to undo
 
--- the undo of a loser's change leaves the losers
-losers_done : (format : Format) (before settled : History) (last : Change) (lsn : ℕ) → IsAmong (losers_of before) last.txn → Settles format before last settled
-    → losers_of (undoes (undo_for lsn last) ∷ settled) ≡ losers_of before
-losers_done format before settled last lsn among (inl stays) =
-    ap (λ (h : History). with_number last.txn (losers_of h)) stays.1 ∙ with_number-kept last.txn (losers_of before) (losers_rise before) among
-losers_done format before settled last lsn among (inr differs) =
-    let kept : with_number last.txn (losers_of before) ≡ losers_of before = with_number-kept last.txn (losers_of before) (losers_rise before) among in
-    ap (λ (h : History). with_number last.txn (losers_of h)) differs.1.2 ∙ ap (with_number last.txn) kept ∙ kept
-
--- and what is pending but the change
-pending_done : (format : Format) (before settled : History) (last : Change) (rest : List Change) (lsn : ℕ)
-    → all_pending before ≡ last ∷ rest → Settles format before last settled
-    → all_pending (undoes (undo_for lsn last) ∷ settled) ≡ rest
-pending_done format before settled last rest lsn is settles =
-    let same : all_pending settled ≡ all_pending before = elim settles [
-      | inl stays ↦ ap all_pending stays.1
-      | inr differs ↦ ap all_pending differs.1.2
-    ] in
-    ap (λ (all : List Change). without_newest all last.txn) (same ∙ is) ∙ without_newest-head last rest
-
 -- so the undo of a loser's change takes the bytes of its records from those of the undo that is left
 undo_bytes-loser : (format : Format) (before new : History) (last : Change) (rest : List Change) → IsAmong (losers_of before) last.txn
     → all_pending before ≡ last ∷ rest → Undone format before last new
     → undo_bytes format before ≡ entry_bytes format before last + bytes_of (compensate_record (undo_for 0 last)) + undo_bytes format new
 undo_bytes-loser format before new last rest among is undone =
-    let pending : all_pending new ≡ rest = ap all_pending undone.new_is ∙ pending_done format before undone.settled last rest undone.lsn is undone.settles in
+    let pending : all_pending new ≡ rest = all_pending_undone format before new last rest is undone in
+    let kept : with_number last.txn (losers_of before) ≡ losers_of before = with_number-kept last.txn (losers_of before) (losers_rise before) among in
     let losers : losers_of new ≡ losers_of before =
-    ap losers_of undone.new_is ∙ losers_done format before undone.settled last undone.lsn among undone.settles in
+    undone_either format before new last (λ h. losers_of h ≡ losers_of before) undone (λ lsn right. kept) (λ next lsn. ap (with_number last.txn) kept ∙ kept) in
     let alike : AreAlike (with_undo format before last) new =
     done_alike format before before (with_undo format before last) new last (record { pages = λ page. refl; entries = λ page. refl })
     (done format before (with_undo format before last) last (some_undone format before last)) (done format before new last undone) in
