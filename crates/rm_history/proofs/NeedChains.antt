@@ -34,8 +34,8 @@ back format before new txn last rest ordered is undone =
     let mine : pending_of before last.txn ≡ last ∷ rest = ap (pending_of before) of_it ∙ is in
     let left : pending_of new last.txn ≡ rest =
     undone_either format before new last (λ h. pending_of h last.txn ≡ rest) undone
-    (λ lsn right. pending_of-undo before (undo_for lsn last) last rest mine)
-    (λ next lsn. pending_of-undo (enters (entry_for format next before last) ∷ before) (undo_for lsn last) last rest mine) in
+    (λ lsn above right. pending_of-undo before (undo_for lsn last) last rest mine)
+    (λ next lsn above later wrong. pending_of-undo (enters (entry_for format next before last) ∷ before) (undo_for lsn last) last rest mine) in
     ap (λ (t : ℕ). need_of new t last.rid.page) (sym of_it) ∙ ap (λ (all : List Change). need_for (on_page last.rid.page all)) left ∙ sym logged.0
 
 pub needs_go_on : NeedsGoOn

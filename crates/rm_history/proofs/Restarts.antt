@@ -94,12 +94,12 @@ undone_leaves : (format : Format) (before new : History) (last : Change) → las
     → Undone format before last new → Leaves before last.txn new
 undone_leaves format before new last inside undone =
     undone_either format before new last (Leaves before last.txn) undone
-    (λ lsn right. record {
+    (λ lsn above right. record {
       finished = λ any. (λ finished. finished, λ finished. finished);
       records = λ any has. has;
       sizes = λ page. size_stays before (undo_for lsn last) page inside;
     })
-    (λ next lsn. record {
+    (λ next lsn above later wrong. record {
       finished = λ any. (λ finished. finished, λ finished. finished);
       records = λ any has. elim has [ inl undone ↦ inl undone | inr earlier ↦ earlier ];
       sizes = λ page. size_stays before (undo_for lsn last) page inside;
@@ -234,7 +234,7 @@ count_undone : (start : Format) (before new : History) (all : List Change) → A
 count_undone start before new [] undone = omega (arith, ap undo_count undone)
 count_undone start before new (last ∷ rest) undone =
     let one : undo_count undone.0 ≡ undo_count before + 1 =
-    undone_either start before undone.0 last (λ h. undo_count h ≡ undo_count before + 1) undone.1 (λ lsn right. refl) (λ next lsn. refl) in
+    undone_either start before undone.0 last (λ h. undo_count h ≡ undo_count before + 1) undone.1 (λ lsn above right. refl) (λ next lsn above later wrong. refl) in
     omega (arith, one, count_undone start undone.0 new rest undone.2)
 
 count_ended : (before new : History) (txns : List ℕ) → AllEnded before txns new → undo_count new ≡ undo_count before

@@ -51,8 +51,8 @@ entry_right format before last page right = elim (cases_eq last.rid.page page) [
 done : (format : Format) (before new : History) (last : Change) → Undone format before last new → IsDone format before last new
 done format before new last undone =
     undone_either format before new last (IsDone format before last) undone
-    (λ lsn right. record { pages = λ page. refl; entries = λ page. entry_right format before last page right })
-    (λ next lsn. record { pages = λ page. refl; entries = λ page. refl })
+    (λ lsn above right. record { pages = λ page. refl; entries = λ page. entry_right format before last page right })
+    (λ next lsn above later wrong. record { pages = λ page. refl; entries = λ page. refl })
 
 -- histories that are alike do not differ in the category after an undo
 category_alike : (format : Format) (history other : History) (last : Change) → AreAlike history other
@@ -128,7 +128,7 @@ undo_bytes-loser format before new last rest among is undone =
     let pending : all_pending new ≡ rest = all_pending_undone format before new last rest is undone in
     let kept : with_number last.txn (losers_of before) ≡ losers_of before = with_number-kept last.txn (losers_of before) (losers_rise before) among in
     let losers : losers_of new ≡ losers_of before =
-    undone_either format before new last (λ h. losers_of h ≡ losers_of before) undone (λ lsn right. kept) (λ next lsn. ap (with_number last.txn) kept ∙ kept) in
+    undone_either format before new last (λ h. losers_of h ≡ losers_of before) undone (λ lsn above right. kept) (λ next lsn above later wrong. ap (with_number last.txn) kept ∙ kept) in
     let alike : AreAlike (with_undo format before last) new =
     done_alike format before before (with_undo format before last) new last (record { pages = λ page. refl; entries = λ page. refl })
     (done format before (with_undo format before last) last (some_undone format before last)) (done format before new last undone) in

@@ -4,18 +4,18 @@ use Rattle.std.proofs.lemmas.Bool.{cases_eq, eq-eqb, ne_eqb}
 use Rattle.rm_types.specs.declared.formats.Format.{Format}
 use Rattle.rm_types.specs.declared.formats.Format.TheVariants.{One}
 use Rattle.rm_model.specs.Pages.{used, row_length, set_slot, slot_at}
-use Rattle.rm_history.specs.Acts.{Change, Undo, Entry, History, undoes, newest_lsn}
+use Rattle.rm_history.specs.Acts.{Change, Undo, Entry, History, undoes, enters, newest_lsn}
 use Rattle.rm_history.specs.Contents.{page_of, entry_of}
 use Rattle.rm_history.specs.Pending.{pending_of}
 use Rattle.rm_history.specs.Transactions.{IsFinished}
-use Rattle.rm_history.specs.Rows.{rows_of_log}
 use Rattle.rm_history.specs.Needs.{need_of, Fits}
 use Rattle.rm_history.specs.Rules.{MayUndo, MayEnter, Follows, IsInOrder}
 use Rattle.rm_history.specs.Legal.{EntriesFollow, IsLegal}
-use Rattle.rm_history.specs.Undoing.{category_after, entry_for, undo_for, Settles, Undone}
+use Rattle.rm_history.specs.Undoing.{category_after, entry_for, undo_for, Undone}
 use Rattle.rm_history.specs.UndoLaws.{IsUndone, UndoesAreInOrder, NoUndoLacksRoom}
 use Rattle.rm_history.proofs.NeedSums.{sum_below-zero, room_kept, used-inside, pending_of-undo, pending_on-undo, need_of-undo}
 use Rattle.rm_history.proofs.NeedSums.{need_of-undo_other, fits_as_before}
+use Rattle.rm_history.proofs.UndoSteps.{undone_either}
 use Rattle.rm_history.proofs.Following.{entries_follow_undo, entries_follow_entry}
 use Rattle.rm_history.proofs.Prefixes.{legal_is_in_order}
 use Rattle.rm_history.proofs.PendingSteps.{pending-undo_other}
@@ -35,39 +35,20 @@ entries_follow format (act ∷ before) legal = legal.2.follow
 
 -- ---- the page's entry
 
--- the history in which the page of the change has the entry that undoing the change wants
-record HasEntry (format : Format) (before : History) (last : Change) (new : History) : Type 0 where
-  legal : IsLegal format new
-  pending : (txn : ℕ) → pending_of new txn ≡ pending_of before txn
-  finished : (txn : ℕ) → IsFinished new txn → IsFinished before txn
-  rows : rows_of_log new ≡ rows_of_log before
-  entered : entry_of new last.rid.page ≡ category_after format new last
-
--- so settling gives that history: the record that enters it may come, and keeps the inventory
-entered_by : (format : Format) (before settled : History) (last : Change) (rest : List Change) → IsLegal format before
-    → (IsFinished before last.txn → ⊥) → pending_of before last.txn ≡ last ∷ rest
-    → Settles format before last settled → HasEntry format before last settled
-entered_by format before settled last rest legal unfinished is (inl stays) =
-    subst (λ (h : History). HasEntry format before last h) (sym stays.1)
-    (record { legal = legal; pending = λ txn. refl; finished = λ txn f. f; rows = refl; entered = stays.0 })
-entered_by format before settled last rest legal unfinished is (inr differs) =
-    let e : Entry = entry_for format differs.1.0 before last in
-    let may : MayEnter before e = record { unfinished = unfinished; last = last; is_last = (rest, is); page_is = refl } in
-    subst (λ (h : History). HasEntry format before last h) (sym differs.1.2)
-    (record {
-      legal = (
-        legal,
-        record { above = differs.1.1; may_come = may; fits = fits_in_order before (legal_is_in_order format before legal) },
-        record {
-          entered = record { differs = λ same. differs.0 (sym same); right = inr (last, (rest, is), refl) };
-          follow = entries_follow_entry format before e may (entries_follow format before legal);
-        },
-      );
-      pending = λ txn. refl;
-      finished = λ txn f. f;
-      rows = refl;
-      entered = rw (eq-eqb last.rid.page last.rid.page refl);
-    })
+-- the record that enters what undoing the change wants may come, and keeps the inventory
+entry_is_legal : (format : Format) (before : History) (last : Change) (rest : List Change) (lsn : ℕ) → IsLegal format before
+    → (IsFinished before last.txn → ⊥) → pending_of before last.txn ≡ last ∷ rest → newest_lsn before < lsn
+    → (entry_of before last.rid.page ≡ category_after format before last → ⊥) → IsLegal format (enters (entry_for format lsn before last) ∷ before)
+entry_is_legal format before last rest lsn legal unfinished is above wrong =
+    let e : Entry = entry_for format lsn before last in
+    let may : MayEnter before e = record { unfinished = unfinished; last = last; is_last = (rest, is); page_is = refl } in (
+      legal,
+      record { above = above; may_come = may; fits = fits_in_order before (legal_is_in_order format before legal) },
+      record {
+        entered = record { differs = λ same. wrong (sym same); right = inr (last, (rest, is), refl) };
+        follow = entries_follow_entry format before e may (entries_follow format before legal);
+      },
+    )
 
 -- ---- the compensation
 
@@ -160,19 +141,14 @@ undone_mine : (format : Format) (before new : History) (last : Change) (rest : L
     → (IsFinished before last.txn → ⊥) → pending_of before last.txn ≡ last ∷ rest
     → Undone format before last new → IsUndone format before last.txn rest new
 undone_mine format before new last rest legal unfinished is undone =
-    let mid : History = undone.settled in
-    let there : HasEntry format before last mid = entered_by format before mid last rest legal unfinished is undone.settles in
-    let is_mid : pending_of mid last.txn ≡ last ∷ rest = there.pending last.txn ∙ is in
-    let done : IsUndone format mid last.txn rest (undoes (undo_for undone.lsn last) ∷ mid) =
-    undone_by format mid last rest undone.lsn there.legal (λ f. unfinished (there.finished last.txn f)) is_mid there.entered undone.above in
-    subst (λ (h : History). IsUndone format before last.txn rest h) (sym undone.new_is)
-    (record {
-      legal = done.legal;
-      pending = done.pending;
-      others = λ other differs. done.others other differs ∙ there.pending other;
-      unfinished = done.unfinished;
-      rows = done.rows ∙ there.rows;
-    })
+    undone_either format before new last (IsUndone format before last.txn rest) undone
+    (λ lsn above right. undone_by format before last rest lsn legal unfinished is right above)
+    (λ next lsn above later wrong.
+    let mid : History = enters (entry_for format next before last) ∷ before in
+    let done : IsUndone format mid last.txn rest (undoes (undo_for lsn last) ∷ mid) =
+    undone_by format mid last rest lsn (entry_is_legal format before last rest next legal unfinished is above wrong) unfinished is
+    (rw (eq-eqb last.rid.page last.rid.page refl) refl) later in
+    record { legal = done.legal; pending = done.pending; others = done.others; unfinished = done.unfinished; rows = done.rows })
 
 -- an undo is in order
 pub undoes_are_in_order : UndoesAreInOrder
