@@ -26,16 +26,16 @@ needs_are_logged =
     })
 
 -- after an undo the need is what the change has logged
-back : (format : Format) (before new : History) (txn : ℕ) (last : Change) (rest : List Change) → IsInOrder before
-    → pending_of before txn ≡ last ∷ rest → Undone format before last new → need_of new txn last.rid.page ≡ last.need
-back format before new txn last rest ordered is undone =
+back : (start : Format) (before new : History) (txn : ℕ) (last : Change) (rest : List Change) → IsInOrder before
+    → pending_of before txn ≡ last ∷ rest → Undone start before last new → need_of new txn last.rid.page ≡ last.need
+back start before new txn last rest ordered is undone =
     let of_it : last.txn ≡ txn = last_is_of before txn last rest is in
     let logged = subst NeedsAreLogged is (needs_are_logged before ordered txn) in
     let mine : pending_of before last.txn ≡ last ∷ rest = ap (pending_of before) of_it ∙ is in
     let left : pending_of new last.txn ≡ rest =
-    undone_either format before new last (λ h. pending_of h last.txn ≡ rest) undone
+    undone_either start before new last (λ h. pending_of h last.txn ≡ rest) undone
     (λ lsn above right. pending_of-undo before (undo_for lsn last) last rest mine)
-    (λ next lsn above later wrong. pending_of-undo (enters (entry_for format next before last) ∷ before) (undo_for lsn last) last rest mine) in
+    (λ next lsn above later wrong. pending_of-undo (enters (entry_for start next before last) ∷ before) (undo_for lsn last) last rest mine) in
     ap (λ (t : ℕ). need_of new t last.rid.page) (sym of_it) ∙ ap (λ (all : List Change). need_for (on_page last.rid.page all)) left ∙ sym logged.0
 
 pub needs_go_on : NeedsGoOn
