@@ -46,7 +46,8 @@ listed_blocks (Some listing) = listing.blocks
 
 -- each place is of a block of the file, with the gate of a batch that is not after this one
 abbrev pub AreGates : List Batch → ℕ → (ℕ → Type 0) → List Place → Type 0
-AreGates batches batch IsOfFile places = (place : Place) → IsIn places place → IsOfFile place.number × IsGate batches place.at × (place.at ≤ batch)
+AreGates batches batch IsOfFile places =
+    (place : Place) → IsIn places place → IsOfFile place.number × IsGate batches place.at × (place.at ≤ batch)
 
 -- The checkpoint is sound: there is one of the log, where the master names one, and it lists gates for blocks of the file as
 -- it was there.
@@ -54,7 +55,8 @@ pub record IsCheckpointSound (start : Start) (fields : Fields) (batches : List B
   pub named : Option Listing
   pub has : HasCheckpoint fields batches named
   pub pages : AreGates batches fields.batch (λ number. number < fields.pages) (listed_pages named)
-  pub blocks : AreGates batches fields.batch (IsSpacePlace (format_after start.format (before_checkpoint fields batches)) fields.pages) (listed_blocks named)
+  pub blocks :
+      AreGates batches fields.batch (IsSpacePlace (format_after start.format (before_checkpoint fields batches)) fields.pages) (listed_blocks named)
 
 -- where a list of places has the number, its offset, and else the other one
 abbrev pub place_or : List Place → ℕ → ℕ → ℕ
@@ -64,7 +66,8 @@ place_or (first ∷ places) number other = if first.number == number then first.
 -- The redo offset of a block is the one that the checkpoint lists for it, or else the batch's gate: of a page's block by the
 -- page's number, and of a block of the inventory by its place in area Space.
 abbrev pub IsRedoOffset : (Option Listing → List Place) → Fields → List Batch → ℕ → ℕ → Type 0
-IsRedoOffset listed fields batches number redo = (named : Option Listing) × HasCheckpoint fields batches named × (redo ≡ place_or (listed named) number fields.batch)
+IsRedoOffset listed fields batches number redo =
+    (named : Option Listing) × HasCheckpoint fields batches named × (redo ≡ place_or (listed named) number fields.batch)
 
 abbrev pub IsRedoOfPage : Fields → List Batch → ℕ → ℕ → Type 0
 IsRedoOfPage = IsRedoOffset listed_pages

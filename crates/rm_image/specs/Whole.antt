@@ -30,7 +30,8 @@ pub record IsLogSound (Rules : Format → History → Type 0) (start : Start) (b
 
 -- The image is sound with these, by the rules: its master, its log, its checkpoint and its copy are. The master has the version
 -- and the size of the file as it was at the checkpoint.
-pub record IsSoundBy (Rules : Format → History → Type 0) (c : Image) (start : Start) (fields : Fields) (batches : List Batch) : Type 0 where
+pub record IsSoundBy (Rules : Format → History → Type 0) (c : Image) (start : Start) (fields : Fields) (batches : List Batch)
+    : Type 0 where
   pub master : HasFields (c Master) fields
   pub version : IsOfFormat fields (format_after start.format (before_checkpoint fields batches))
   pub size : fields.pages ≡ size_after start.pages (before_checkpoint fields batches)
@@ -49,12 +50,14 @@ IsPageWhole c fields batches page = (redo : ℕ) × IsRedoOfPage fields batches 
 
 abbrev pub IsBlockWhole : Image → Format → Fields → List Batch → ℕ → Type 0
 IsBlockWhole c format fields batches block =
-    (redo : ℕ) × IsRedoOfBlock fields batches (space_place format block) redo × HasEntries format (c Space) batches (space_place format block) block redo
+    (redo : ℕ) × IsRedoOfBlock fields batches (space_place format block) redo
+    × HasEntries format (c Space) batches (space_place format block) block redo
 
 -- each block of the file has
 pub record AreBlocksWhole (c : Image) (start : Start) (fields : Fields) (batches : List Batch) : Type 0 where
   pub pages : (page : ℕ) → page < size_of start batches → IsPageWhole c fields batches page
-  pub blocks : (block : ℕ) → block < blocks_of (size_of start batches) → IsBlockWhole c (format_of start batches) fields batches block
+  pub blocks : (block : ℕ) → block < blocks_of (size_of start batches)
+      → IsBlockWhole c (format_of start batches) fields batches block
 
 -- It is whole: each block of the file is too, unless the file is being restored.
 pub record IsWholeWith (c : Image) (start : Start) (fields : Fields) (batches : List Batch) : Type 0 where
