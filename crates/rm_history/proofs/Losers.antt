@@ -7,9 +7,9 @@ use Rattle.rm_history.specs.Rules.{IsInOrder}
 use Rattle.rm_history.specs.Laws.{LosersAreUnfinished}
 use Rattle.rm_history.specs.Losers.{with_number, without_number, losers_of, IsAmong, AreRising}
 
--- ---- a list with a number more, and without one
+-- ---- a list with one more number, and without one
 
--- what holds of the list with the number in prefix, as it is, and with the number further back, holds with the number
+-- what holds of the list with the number as its first, as it is, and with the number further back, holds with the number
 with_number_cases : (P : List ℕ → Type 0) (n first : ℕ) (rest : List ℕ) → (n < first → P (n ∷ first ∷ rest)) → (n ≡ first → P (first ∷ rest))
     → (first < n → P (first ∷ with_number n rest)) → P (with_number n (first ∷ rest))
 with_number_cases P n first rest below same above = elim (cases_lt n first) [

@@ -74,7 +74,7 @@ restarts_exist start before =
 
 -- ---- all that is pending is undone
 
--- what one undo leaves: the same transactions finished, at the most one with a record more, and as many slots on each page
+-- what one undo leaves: the same transactions finished, at the most one with one more record, and as many slots on each page
 record Leaves (before : History) (txn : ℕ) (new : History) : Type 0 where
   finished : (any : ℕ) → IsFinished new any ↔ IsFinished before any
   records : (any : ℕ) → HasRecord new any → (txn ≡ any) ⊎ HasRecord before any
