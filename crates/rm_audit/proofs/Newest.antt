@@ -8,7 +8,7 @@ use Rattle.rm_history.specs.Acts.{Change}
 use Rattle.rm_history.specs.Pending.{without_newest}
 use Rattle.rm_audit.specs.Parts.{IsNewestOf}
 
--- a list with a change more, the other way round
+-- a list with one more change, the other way round
 pub reverse-push : (prefix : List Change) (change : Change) → reverse (prefix ++ change ∷ []) ≡ change ∷ reverse prefix
 reverse-push prefix change = reverse-append prefix (change ∷ [])
 
@@ -40,7 +40,7 @@ newest_of_other txn prefix change (Some at) other is = (
       ∙ sym (ap reverse (remove-append_left prefix (change ∷ []) at is.0) ∙ reverse-push (remove prefix at) change),
 )
 
--- the prefix of a list with a change more, the other way round
+-- the prefix of a list with one more change, the other way round
 pub reverse_more : (changes : List Change) (i : ℕ) (change : Change) → i < length changes → change ≡ get_or changes i change
     → reverse (take (i + 1) changes) ≡ change ∷ reverse (take i changes)
 reverse_more changes i change inside is =

@@ -1,4 +1,4 @@
--- Places in the prefix of a list.
+-- Places in a prefix of a list.
 use Rattle.std.proofs.Common.{◌≡◌, ℕ, zero, suc, ◌+◌, ◌<◌, List, [], ◌∷◌, ◌++◌, ◌⊎◌, inl, inr, length, take, get_or, refl, subst, arith}
 use Rattle.std.proofs.lemmas.List.{take_more}
 use Rattle.rm_types.specs.declared.places.Place.{Place}

@@ -9,7 +9,7 @@ use Rattle.rm_history.proofs.Finished.{record_stays}
 use Rattle.rm_history.proofs.Appending.{acts_of-snoc, acts_onto-append}
 use Rattle.rm_history.specs.Transactions.{HasRecord, HasChange}
 
--- the prefix with one record more
+-- the prefix with one more record
 pub acts_more : (log : List Logged) (i : ℕ) (newest : Logged) → i < length log → newest ≡ get_or log i newest
     → acts_of (take (i + 1) log) ≡ act_of newest ∷ acts_of (take i log)
 acts_more log i newest inside is =

@@ -14,7 +14,7 @@ use rm_record::Logged;
 use rm_types::{Format, NoMemory, TxnId};
 use std::alloc::Global;
 
-// A transaction with a change on the page, with one change more above the others.
+// A transaction with a change on the page, with one more change above the others.
 fn some_on_step(found: Option<u32>, change: &Change, page: u32) -> Option<u32>
     ensures { (before : List Changes) → IsSomeOn page before found → IsSomeOn page (change.now ∷ before) result }
 {

@@ -19,7 +19,7 @@ use rm_types::{CAPACITY, NoMemory, TxnId};
 use std::alloc::Global;
 use std::collections::BTreeMap;
 
-// What a transaction's undo needs on a page, with one pending change more above the others.
+// What a transaction's undo needs on a page, with one more pending change above the others.
 fn need_step(need: u128, change: &Change, txn: TxnId, page: u32) -> u128
     requires { need ≤ MAX_ROW * 2 ^ 64 }
     ensures value { (before : List Changes) → need ≡ need_in before page txn.0 → result ≡ need_in (change.now ∷ before) page txn.0 }

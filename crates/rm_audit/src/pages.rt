@@ -11,7 +11,7 @@ use rm_record::{LogRecord, Logged};
 use rm_types::{Format, Lsn, NoMemory, Rid, SLOT_ENTRY, Slot};
 use std::alloc::Global;
 
-// Brings the slots of a page after one record more.
+// Applies one more record to the slots of a page.
 fn page_step(slots: &mut Vec<Slot>, logged: &Logged, page: u32) -> Result<(), NoMemory>
     ensures { (before : History) → slots.old.items ≡ page_of before page → OnOk result (slots.new.items ≡ page_of (act_of logged.now ∷ before) page) }
 {
@@ -42,7 +42,7 @@ pub fn page(alloc: Global, log: &[Logged], number: u32) -> Result<Vec<Slot>, NoM
     Ok(slots)
 }
 
-// The version of a page after one record more.
+// The version of a page with one more record.
 fn version_step(version: Lsn, logged: &Logged, page: u32) -> Lsn
     ensures { (before : History) → version.0 ≡ version_of before page → result.0 ≡ version_of (act_of logged.now ∷ before) page }
 {
@@ -68,7 +68,7 @@ pub fn version(log: &[Logged], page: u32) -> Lsn
     version
 }
 
-// The entry of a page after one record more.
+// The entry of a page with one more record.
 fn entry_step(entry: u8, logged: &Logged, number: u32) -> u8
     ensures { (before : History) → entry ≡ entry_of before number → result ≡ entry_of (act_of logged.now ∷ before) number }
 {

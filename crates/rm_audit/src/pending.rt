@@ -12,7 +12,7 @@ use rm_record::{LogRecord, Logged};
 use rm_types::{NoMemory, TxnId};
 use std::alloc::Global;
 
-// Where the newest change of a transaction stands, with one change more after the others.
+// Where the newest change of a transaction stands, with one more change after the others.
 fn newest_step(found: Option<usize>, index: usize, change: &Change, txn: TxnId) -> Option<usize>
     ensures { (prefix : List Changes) → length prefix ≡ index → IsNewestOf txn.0 prefix found → IsNewestOf txn.0 (prefix ++ change.now ∷ []) result }
 {
@@ -57,7 +57,7 @@ fn keep_of(pending: &mut Vec<Change>, txn: TxnId)
     pending.retain(|change| change.txn.0 == txn.0);
 }
 
-/// Brings the pending changes of all transactions, the oldest first, after one record more.
+/// Applies one more record to the pending changes of all transactions, the oldest first.
 pub(crate) fn pending_step(pending: &mut Vec<Change>, logged: &Logged) -> Result<(), NoMemory>
     ensures { (before : History) → reverse pending.old.items ≡ all_pending_of before → OnOk result (reverse pending.new.items ≡ all_pending_of (act_of logged.now ∷ before)) }
 {

@@ -51,7 +51,7 @@ fn apply(rows: &mut BTreeMap<Rid, Row>, changes: &[Change]) -> Result<(), NoMemo
     Ok(())
 }
 
-// Brings the committed rows after one record more.
+// Applies one more record to the committed rows.
 fn rows_step(
     alloc: Global,
     rows: &mut BTreeMap<Rid, Row>,

@@ -38,7 +38,7 @@ fn changer_of(logged: &Logged, place: Rid) -> Option<TxnId>
     }
 }
 
-// Whether a transaction is finished after one record more.
+// Whether a transaction is finished with one more record.
 fn finished_step(finished: bool, logged: &Logged, of: TxnId) -> bool
     ensures { (before : History) → (IsTrue finished ↔ IsFinished before of.0) → (IsTrue result ↔ IsFinished (act_of logged.now ∷ before) of.0) }
 {
@@ -60,7 +60,7 @@ pub fn is_finished(log: &[Logged], txn: TxnId) -> bool
     finished
 }
 
-// Whether a transaction has a record, after one record more.
+// Whether a transaction has a record, with one more record in the log.
 fn has_record_step(has: bool, logged: &Logged, txn: TxnId) -> bool
     ensures { (before : History) → (IsTrue has ↔ HasRecord before txn.0) → (IsTrue result ↔ HasRecord (act_of logged.now ∷ before) txn.0) }
 {

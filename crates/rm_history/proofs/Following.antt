@@ -11,7 +11,7 @@ use Rattle.rm_history.specs.Needs.{on_page}
 use Rattle.rm_history.specs.Rules.{MayUndo, MayEnter, MayEnd}
 use Rattle.rm_history.specs.Legal.{category_with, IsPendingOn, FollowsOn, EntriesFollow}
 use Rattle.rm_history.proofs.PendingSteps.{pending-change}
-use Rattle.rm_history.proofs.ChainSteps.{pending-ended}
+use Rattle.rm_history.proofs.PendingLaws.{pending-ended}
 use Rattle.rm_history.proofs.NeedSums.{on_page-here, pending_on-change, pending_on-undo}
 
 -- the page of a transaction's newest change has something pending

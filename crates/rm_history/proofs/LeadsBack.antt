@@ -19,12 +19,6 @@ LeadsBack rid held (newest ∷ before) row =
     ((newest.rid ≡ rid) × (newest.after ≡ held) × LeadsBack rid newest.before before row)
     ⊎ ((newest.rid ≡ rid → ⊥) × LeadsBack rid held before row)
 
--- from what is the same, through the same, to the same
-pub same_way : (rid : Rid) (held other : Slot) (pending changed : List Change) (row : Option (List ℕ)) → held ≡ other → pending ≡ changed
-    → LeadsBack rid held pending row → LeadsBack rid other changed row
-same_way rid held other pending changed row held_same changed_same leads =
-    subst (λ (s : Slot). LeadsBack rid s changed row) held_same (subst (λ (l : List Change). LeadsBack rid held l row) changed_same leads)
-
 -- where none is on the row id it holds the row
 pub unchanged_row : (rid : Rid) (held : Slot) (pending : List Change) (row : Option (List ℕ)) → (IsChanged pending rid → ⊥)
     → LeadsBack rid held pending row → row_of held ≡ row

@@ -25,6 +25,7 @@ pub mod RoomLaws
 pub mod UndoTheorem
 pub mod Rollbacks
 pub mod AllPending
+pub mod UndoSteps
 pub mod FallingLsns
 pub mod Losers
 pub mod Restarts

@@ -19,7 +19,7 @@ lost-reverse changed = sum_by-IsPermutation (λ (c : Change). row_length c.befor
 gained-reverse : (changed : List Change) → gained (reverse changed) ≡ gained changed
 gained-reverse changed = sum_by-IsPermutation (λ (c : Change). row_length c.after) changed (reverse changed) (IsPermutation-reverse changed)
 
--- one change more adds what it gave up
+-- one more change adds what it gave up
 lost-cons : (newest : Change) (before : List Change) → lost (newest ∷ before) ≡ row_length newest.before + lost before
 lost-cons newest before = sum_by-cons (λ (c : Change). row_length c.before) newest before
 
@@ -39,7 +39,7 @@ record Greatest (changed : List Change) : Type 0 where
   cut : changed ≡ newest ++ older
   is : need_for changed + gained newest ≡ lost newest
 
--- with one change more it is that of none of them, or of one more
+-- with one more change it is that of none of them, or of one more
 greatest_more : (first : Change) (before : List Change) → Greatest before → Greatest (first ∷ before)
 greatest_more first before found = elim (cases_lt (need_for before + row_length first.before) (row_length first.after)) [
   | inl less ↦ record { newest = []; older = first ∷ before; cut = refl; is = omega (arith, less) }

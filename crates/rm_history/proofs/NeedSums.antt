@@ -73,7 +73,7 @@ pub need_for-here : (page : ℕ) (last : Change) (rest : List Change) → last.r
     → need_for (on_page page (last ∷ rest)) ≡ (need_for (on_page page rest) + row_length last.before) - row_length last.after
 need_for-here page last rest here = ap need_for (on_page-here page last rest here)
 
--- ---- what is pending on a page, with one record more
+-- ---- what is pending on a page, with one more record
 
 -- after an undo its transaction has the older ones pending
 pub pending_of-undo : (before : History) (u : Undo) (last : Change) (rest : List Change) → pending_of before u.txn ≡ last ∷ rest
@@ -98,7 +98,7 @@ pending_on-undo u before last rest txn page is other = elim (cases_eq u.txn txn)
   | inr others ↦ rw (ne_eqb u.txn txn others)
 ]
 
--- ---- what an undo needs, with one record more
+-- ---- what an undo needs, with one more record
 
 -- what a transaction's undo needs after a change of its own
 pub need_of-change : (before : History) (c : Change) (page : ℕ) → c.rid.page ≡ page

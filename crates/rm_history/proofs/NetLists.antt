@@ -16,7 +16,7 @@ HasLogged (commits f ∷ before) lsn txn = HasLogged before lsn txn
 HasLogged (ends f ∷ before) lsn txn = HasLogged before lsn txn
 HasLogged (marks m ∷ before) lsn txn = HasLogged before lsn txn
 
--- an act more is the last one of the log as it stands
+-- one more act is the last one of the log as it stands
 pub reverse-cons : (newest : Act) (before : History) → reverse (newest ∷ before) ≡ reverse before ++ (newest ∷ [])
 reverse-cons newest before = reverse-append (newest ∷ []) before
 
@@ -46,7 +46,7 @@ is_undone-append lsn (undoes u ∷ first) second =
     ap (λ (b : Bool). eqb u.undone lsn || b) (is_undone-append lsn first second) ∙ or_group (eqb u.undone lsn) (is_undone lsn first) (is_undone lsn second)
 is_undone-append lsn (other ∷ first) second = is_undone-append lsn first second
 
--- with a record more at the end
+-- with one more record at the end
 is_undone-last : (lsn : ℕ) (newest : Act) (before : History) → is_undone lsn (reverse before) ≡ is_undone lsn before
     → is_undone lsn (reverse (newest ∷ before)) ≡ is_undone lsn before || is_undone lsn (newest ∷ [])
 is_undone-last lsn newest before same =
@@ -99,7 +99,7 @@ net_agree log other txn (changes c ∷ acts) agree =
     ]
 net_agree log other txn (act ∷ acts) agree = net_agree log other txn acts agree
 
--- a change in prefix of two parts
+-- a change before two parts
 net_pushed : (mine undone : Bool) (c : Change) (first second : List Change)
     → cond mine (cond undone (first ++ second) (c ∷ first ++ second)) (first ++ second) ≡ cond mine (cond undone first (c ∷ first)) first ++ second
 net_pushed true true c first second = refl

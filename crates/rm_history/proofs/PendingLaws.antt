@@ -1,48 +1,22 @@
 -- Which changes are pending: whose they are, on which row ids, and in which order.
-use Rattle.std.proofs.Common.{◌≡◌, ◌⊎◌, inl, inr, ℕ, ◌<◌, Bool, cond, eqb, List, [], ◌∷◌, length, refl, sym, subst, ◌∙◌, arith}
+use Rattle.std.proofs.Common.{◌≡◌, inl, inr, ℕ, ◌<◌, eqb, List, [], ◌∷◌, length, refl, sym, ap, subst, ◌∙◌, arith}
 use Rattle.std.specs.List.{AllByRecursion}
-use Rattle.std.proofs.lemmas.Bool.{cond_both, eqb-true, cases_eq}
+use Rattle.std.proofs.lemmas.Bool.{cond_both, cases_eq}
 use Rattle.rm_types.specs.declared.numbers.Rid.{Rid}
-use Rattle.rm_history.specs.Acts.{Act, Change, History, changes, undoes, enters, commits, ends, marks}
+use Rattle.rm_history.specs.Acts.{Act, Change, Finish, History, changes, undoes, enters, commits, ends, marks}
 use Rattle.rm_history.specs.Contents.{page_of}
-use Rattle.rm_history.specs.Pending.{older, pending_of}
+use Rattle.rm_history.specs.Pending.{pending_of}
 use Rattle.rm_history.specs.Transactions.{IsFinished, HasChange}
-use Rattle.rm_history.specs.Rules.{MayChange, IsInOrder}
+use Rattle.rm_history.specs.Rules.{MayChange, MayEnd, IsInOrder}
 use Rattle.rm_history.specs.Laws.{AreChained, IsChanged, PendingIsChained, PendingIsOfOne}
 use Rattle.rm_history.proofs.PendingInduction.{pending_by}
-use Rattle.rm_history.proofs.PendingSteps.{if_equal, pending-change_other, pending-undo_other, length-put, inside-put}
+use Rattle.rm_history.proofs.PendingSteps.{if_equal, pending-change_other, pending-undo_other, pending-end_other, length-put, inside-put}
 
 -- ---- changes among others
 
 -- none is on a row id among none
 pub changed_none : (pending : List Change) (rid : Rid) → pending ≡ [] → IsChanged pending rid → ⊥
 changed_none pending rid none changed = subst (λ (l : List Change). IsChanged l rid) none changed
-
--- those but the newest are among them all
-changed_older : (pending : List Change) (rid : Rid) → IsChanged (older pending) rid → IsChanged pending rid
-changed_older [] rid changed = changed
-changed_older (newest ∷ before) rid changed = inr changed
-
--- what is pending after an undo was pending before it; after a commit or an end too
-changed_undo : (mine : Bool) (pending : List Change) (rid : Rid) → IsChanged (cond mine (older pending) pending) rid → IsChanged pending rid
-changed_undo mine pending rid =
-    cond_both mine (older pending) pending (λ l. IsChanged l rid → IsChanged pending rid) (λ is. changed_older pending rid) (λ is changed. changed)
-
-changed_finish : (mine : Bool) (pending : List Change) (rid : Rid) → IsChanged (cond mine [] pending) rid → IsChanged pending rid
-changed_finish mine pending rid =
-    cond_both mine [] pending (λ l. IsChanged l rid → IsChanged pending rid) (λ is changed. absurd changed) (λ is changed. changed)
-
--- what is pending after a change is this change, or it was pending before
-changed_now : (c : Change) (txn : ℕ) (pending : List Change) (rid : Rid) → c.txn ≡ txn → IsChanged (c ∷ pending) rid
-    → ((c.txn ≡ txn) × (c.rid ≡ rid)) ⊎ IsChanged pending rid
-changed_now c txn pending rid mine (inl now) = inl (mine, now)
-changed_now c txn pending rid mine (inr earlier) = inr earlier
-
-changed_change : (c : Change) (txn : ℕ) (pending : List Change) (rid : Rid) → IsChanged (cond (eqb c.txn txn) (c ∷ pending) pending) rid
-    → ((c.txn ≡ txn) × (c.rid ≡ rid)) ⊎ IsChanged pending rid
-changed_change c txn pending rid =
-    cond_both (eqb c.txn txn) (c ∷ pending) pending (λ l. IsChanged l rid → ((c.txn ≡ txn) × (c.rid ≡ rid)) ⊎ IsChanged pending rid)
-    (λ is. changed_now c txn pending rid (eqb-true c.txn txn is)) (λ is changed. inr changed)
 
 -- ---- whose they are
 
@@ -63,6 +37,13 @@ finished_has_none (ends f ∷ before) ordered txn (inl now) = if_equal f.txn txn
 finished_has_none (ends f ∷ before) ordered txn (inr earlier) =
     cond_both (eqb f.txn txn) [] (pending_of before txn) (λ l. l ≡ []) (λ is. refl) (λ is. finished_has_none before ordered.0 txn earlier)
 finished_has_none (marks m ∷ before) ordered txn finished = finished_has_none before ordered.0 txn finished
+
+-- the end of a rollback leaves what is pending
+pub pending-ended : (f : Finish) (before : History) (txn : ℕ) → MayEnd before f → pending_of (ends f ∷ before) txn ≡ pending_of before txn
+pending-ended f before txn may = elim (cases_eq f.txn txn) [
+  | inl same ↦ if_equal f.txn txn [] (pending_of before txn) same ∙ sym may.none ∙ ap (pending_of before) same
+  | inr different ↦ pending-end_other f before txn different
+]
 
 -- so a transaction with something pending is not finished
 pub changed_unfinished : (history : History) → IsInOrder history → (txn : ℕ) (rid : Rid) → IsChanged (pending_of history txn) rid → IsFinished history txn → ⊥
@@ -108,47 +89,37 @@ changed_has_change history txn rid =
     })
     history tt txn
 
--- where a change may come, no other transaction has one pending on its row id
-pub nobody_else : (before : History) (c : Change) → IsInOrder before → MayChange before c → (other : ℕ)
-    → IsChanged (pending_of before other) c.rid → c.txn ≡ other
-nobody_else before c ordered may other changed = elim (cases_eq c.txn other) [
+-- where a change may come, an unfinished transaction with a change record on its row id is its own
+changer_is : (before : History) (c : Change) (rid : Rid) (other : ℕ) → MayChange before c → c.rid ≡ rid → HasChange before other rid
+    → (IsFinished before other → ⊥) → c.txn ≡ other
+changer_is before c rid other may here has unfinished = elim (cases_eq c.txn other) [
   | inl same ↦ same
-  | inr different ↦
-      let finished : IsFinished before other = may.others other (λ same. different (sym same)) (changed_has_change before other c.rid changed) in
-      absurd (changed_unfinished before ordered other c.rid changed finished)
+  | inr differs ↦ absurd (unfinished (may.others other (λ same. differs (sym same)) (subst (HasChange before other) (sym here) has)))
 ]
 
-nobody_else_at : (before : History) (c : Change) (rid : Rid) → IsInOrder before → MayChange before c → c.rid ≡ rid → (other : ℕ)
-    → IsChanged (pending_of before other) rid → c.txn ≡ other
-nobody_else_at before c rid ordered may here other changed =
-    nobody_else before c ordered may other (subst (λ (r : Rid). IsChanged (pending_of before other) r) (sym here) changed)
+-- so two unfinished ones on one row id are one
+one_changer : (history : History) → IsInOrder history → (rid : Rid) (txn other : ℕ) → HasChange history txn rid → HasChange history other rid
+    → (IsFinished history txn → ⊥) → (IsFinished history other → ⊥) → txn ≡ other
+one_changer [] ordered rid txn other has also live too = absurd has
+one_changer (changes c ∷ before) ordered rid txn other (inl now) (inl then) live too = sym now.0 ∙ then.0
+one_changer (changes c ∷ before) ordered rid txn other (inl now) (inr earlier) live too =
+    sym now.0 ∙ changer_is before c rid other ordered.1.may_come now.1 earlier too
+one_changer (changes c ∷ before) ordered rid txn other (inr earlier) (inl now) live too =
+    sym (changer_is before c rid txn ordered.1.may_come now.1 earlier live) ∙ now.0
+one_changer (changes c ∷ before) ordered rid txn other (inr earlier) (inr also) live too = one_changer before ordered.0 rid txn other earlier also live too
+one_changer (undoes u ∷ before) ordered rid txn other has also live too = one_changer before ordered.0 rid txn other has also live too
+one_changer (enters e ∷ before) ordered rid txn other has also live too = one_changer before ordered.0 rid txn other has also live too
+one_changer (commits f ∷ before) ordered rid txn other has also live too =
+    one_changer before ordered.0 rid txn other has also (λ finished. live (inr finished)) (λ finished. too (inr finished))
+one_changer (ends f ∷ before) ordered rid txn other has also live too =
+    one_changer before ordered.0 rid txn other has also (λ finished. live (inr finished)) (λ finished. too (inr finished))
+one_changer (marks m ∷ before) ordered rid txn other has also live too = one_changer before ordered.0 rid txn other has also live too
 
 -- two transactions have none pending on one row id
 pub pending_is_of_one : PendingIsOfOne
-pending_is_of_one [] ordered rid txn other changed other_changed = absurd changed
-pending_is_of_one (changes c ∷ before) ordered rid txn other changed other_changed =
-    let may : MayChange before c = ordered.1.may_come in
-    elim (changed_change c txn (pending_of before txn) rid changed) [
-      | inl now ↦ elim (changed_change c other (pending_of before other) rid other_changed) [
-        | inl other_now ↦ sym now.0 ∙ other_now.0
-        | inr earlier ↦ sym now.0 ∙ nobody_else_at before c rid ordered.0 may now.1 other earlier
-      ]
-      | inr earlier ↦ elim (changed_change c other (pending_of before other) rid other_changed) [
-        | inl other_now ↦ sym (nobody_else_at before c rid ordered.0 may other_now.1 txn earlier) ∙ other_now.0
-        | inr other_earlier ↦ pending_is_of_one before ordered.0 rid txn other earlier other_earlier
-      ]
-    ]
-pending_is_of_one (undoes u ∷ before) ordered rid txn other changed other_changed =
-    pending_is_of_one before ordered.0 rid txn other (changed_undo (eqb u.txn txn) (pending_of before txn) rid changed)
-    (changed_undo (eqb u.txn other) (pending_of before other) rid other_changed)
-pending_is_of_one (enters e ∷ before) ordered rid txn other changed other_changed = pending_is_of_one before ordered.0 rid txn other changed other_changed
-pending_is_of_one (commits f ∷ before) ordered rid txn other changed other_changed =
-    pending_is_of_one before ordered.0 rid txn other (changed_finish (eqb f.txn txn) (pending_of before txn) rid changed)
-    (changed_finish (eqb f.txn other) (pending_of before other) rid other_changed)
-pending_is_of_one (ends f ∷ before) ordered rid txn other changed other_changed =
-    pending_is_of_one before ordered.0 rid txn other (changed_finish (eqb f.txn txn) (pending_of before txn) rid changed)
-    (changed_finish (eqb f.txn other) (pending_of before other) rid other_changed)
-pending_is_of_one (marks m ∷ before) ordered rid txn other changed other_changed = pending_is_of_one before ordered.0 rid txn other changed other_changed
+pending_is_of_one history ordered rid txn other changed also =
+    one_changer history ordered rid txn other (changed_has_change history txn rid changed) (changed_has_change history other rid also)
+    (changed_unfinished history ordered txn rid changed) (changed_unfinished history ordered other rid also)
 
 -- a row id that has a change record is inside of its page's directory
 pub changed_inside : (history : History) (txn : ℕ) (rid : Rid) → HasChange history txn rid → rid.slot < length (page_of history rid.page)

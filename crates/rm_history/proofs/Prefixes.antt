@@ -9,13 +9,13 @@ prefixes_are_in_order (act ∷ newest) before ordered = prefixes_are_in_order ne
 
 -- what stands before the newest records is legal
 pub legal_prefixes : LegalPrefixes
-legal_prefixes format [] before legal = legal
-legal_prefixes format (act ∷ newest) before legal = legal_prefixes format newest before legal.0
+legal_prefixes start [] before legal = legal
+legal_prefixes start (act ∷ newest) before legal = legal_prefixes start newest before legal.0
 
 -- a legal history is in order
 pub legal_is_in_order : LegalIsInOrder
-legal_is_in_order format [] legal = tt
-legal_is_in_order format (act ∷ before) legal = (legal_is_in_order format before legal.0, legal.1)
+legal_is_in_order start [] legal = tt
+legal_is_in_order start (act ∷ before) legal = (legal_is_in_order start before legal.0, legal.1)
 
 pub empty_is_legal : EmptyIsLegal
-empty_is_legal format = tt
+empty_is_legal start = tt

@@ -1,5 +1,5 @@
 -- Restart's undo can be made of any history, and leaves a legal one, in which nothing is pending and the inventory is right.
-use Rattle.std.proofs.Common.{◌≡◌, ◌⊎◌, inl, inr, ℕ, suc, ◌+◌, ◌<◌, List, [], ◌∷◌, length, map, refl, sym, ap, subst, ◌∙◌, arith}
+use Rattle.std.proofs.Common.{◌≡◌, ◌⊎◌, inl, inr, ℕ, suc, ◌+◌, ◌<◌, ◌↔◌, List, [], ◌∷◌, length, map, refl, sym, ap, subst, ◌∙◌, arith}
 use Rattle.std.specs.List.{range_with_len}
 use Rattle.std.proofs.lemmas.Bool.{cases_eq, eq-eqb, ne_eqb}
 use Rattle.rm_types.specs.declared.formats.Format.{Format}
@@ -9,7 +9,7 @@ use Rattle.rm_model.proofs.Slots.{length-set_slot}
 use Rattle.rm_history.specs.Acts.{Change, Undo, History, undoes, enters, ends, newest_lsn}
 use Rattle.rm_model.specs.Pages.{slot_at}
 use Rattle.rm_history.specs.Contents.{slot_of, page_of, entry_of, category_of}
-use Rattle.rm_history.specs.Pending.{pending_of, of_txn, without_newest, all_pending}
+use Rattle.rm_history.specs.Pending.{pending_of, of_txn, all_pending}
 use Rattle.rm_history.specs.Transactions.{IsFinished, HasRecord}
 use Rattle.rm_history.specs.Rows.{rows_of_log, settled_of}
 use Rattle.rm_history.specs.Counts.{undo_count}
@@ -21,38 +21,39 @@ use Rattle.rm_history.specs.Undoing.{category_after, entry_for, undo_for, Settle
 use Rattle.rm_history.specs.UndoLaws.{IsUndone, RestartsAreLegal, RestartsCompensateAll, RestartsExist}
 use Rattle.rm_history.proofs.Prefixes.{legal_is_in_order}
 use Rattle.rm_history.proofs.PendingLaws.{changed_none}
-use Rattle.rm_history.proofs.Finished.{last_has_record}
+use Rattle.rm_history.proofs.Finished.{finished_or_not, last_has_record}
 use Rattle.rm_history.proofs.Chains.{last_is_inside, last_is_unfinished}
 use Rattle.rm_history.proofs.Holding.{pages_hold_what_is_committed, settled_when_nothing_is_pending}
 use Rattle.rm_history.proofs.UndoTheorem.{entries_follow, no_undo_lacks_room}
 use Rattle.rm_history.proofs.Rollbacks.{HasEnded, has_ended}
-use Rattle.rm_history.proofs.AllPending.{pending_of-newest, pending_of-none, without_newest-head}
-use Rattle.rm_history.proofs.Losers.{losers_rise, losers_are_all, losers_are_unfinished}
+use Rattle.rm_history.proofs.AllPending.{pending_of-newest, pending_of-none}
+use Rattle.rm_history.proofs.UndoSteps.{undone_either, all_pending_undone}
+use Rattle.rm_history.proofs.Losers.{losers_rise, losers_are_unfinished}
 
 -- ---- it can be made
 
 -- the page's entry is right, or the record that sets it comes with the next LSN
-settles_there : (format : Format) (before : History) (last : Change) → (settled : History) × Settles format before last settled
-settles_there format before last = elim (cases_eq (entry_of before last.rid.page) (category_after format before last)) [
+settles_there : (start : Format) (before : History) (last : Change) → (settled : History) × Settles start before last settled
+settles_there start before last = elim (cases_eq (entry_of before last.rid.page) (category_after start before last)) [
   | inl right ↦ (before, inl (right, refl))
   | inr wrong ↦
       let lsn : ℕ = suc (newest_lsn before) in
-      (enters (entry_for format lsn before last) ∷ before, inr (wrong, (lsn, omega arith, refl)))
+      (enters (entry_for start lsn before last) ∷ before, inr (wrong, (lsn, omega arith, refl)))
 ]
 
 -- a change is undone,
-undone_there : (format : Format) (before : History) (last : Change) → (new : History) × Undone format before last new
-undone_there format before last =
-    let found = settles_there format before last in
+undone_there : (start : Format) (before : History) (last : Change) → (new : History) × Undone start before last new
+undone_there start before last =
+    let found = settles_there start before last in
     let lsn : ℕ = suc (newest_lsn found.0) in
     (undoes (undo_for lsn last) ∷ found.0, record { settled = found.0; settles = found.1; lsn = lsn; above = omega arith; new_is = refl })
 
 -- these changes are,
-all_undone_there : (format : Format) (before : History) (all : List Change) → (new : History) × AllUndone format before all new
-all_undone_there format before [] = (before, refl)
-all_undone_there format before (last ∷ rest) =
-    let one = undone_there format before last in
-    let more = all_undone_there format one.0 rest in
+all_undone_there : (start : Format) (before : History) (all : List Change) → (new : History) × AllUndone start before all new
+all_undone_there start before [] = (before, refl)
+all_undone_there start before (last ∷ rest) =
+    let one = undone_there start before last in
+    let more = all_undone_there start one.0 rest in
     (more.0, (one.0, one.1, more.1))
 
 -- and these transactions end
@@ -66,18 +67,16 @@ all_ended_there before (txn ∷ rest) =
 
 -- so all that is pending is undone, and all losers end
 pub restarts_exist : RestartsExist
-restarts_exist format before =
-    let undone = all_undone_there format before (all_pending before) in
+restarts_exist start before =
+    let undone = all_undone_there start before (all_pending before) in
     let ended = all_ended_there undone.0 (losers_of before) in
     (ended.0, record { undone = undone.0; undoes_all = undone.1; ends_all = ended.1 })
 
 -- ---- all that is pending is undone
 
--- what one undo leaves: what is pending but its change, and the same transactions finished, and at the most one record more
+-- what one undo leaves: the same transactions finished, at the most one with one more record, and as many slots on each page
 record Leaves (before : History) (txn : ℕ) (new : History) : Type 0 where
-  pending : all_pending new ≡ without_newest (all_pending before) txn
-  kept : (any : ℕ) → IsFinished before any → IsFinished new any
-  no_more : (any : ℕ) → IsFinished new any → IsFinished before any
+  finished : (any : ℕ) → IsFinished new any ↔ IsFinished before any
   records : (any : ℕ) → HasRecord new any → (txn ≡ any) ⊎ HasRecord before any
   sizes : (page : ℕ) → length (page_of new page) ≡ length (page_of before page)
 
@@ -91,79 +90,62 @@ size_stays before u page inside = elim (cases_eq u.rid.page page) [
   | inr other ↦ rw (ne_eqb u.rid.page page other) refl
 ]
 
--- with the entry before it or without
-undo_leaves : (format : Format) (before settled : History) (last : Change) (lsn : ℕ) → last.rid.slot < length (page_of before last.rid.page)
-    → Settles format before last settled → Leaves before last.txn (undoes (undo_for lsn last) ∷ settled)
-undo_leaves format before settled last lsn inside (inl stays) =
-    subst (λ (h : History). Leaves before last.txn (undoes (undo_for lsn last) ∷ h)) (sym stays.1)
-    (record {
-      pending = refl;
-      kept = λ any finished. finished;
-      no_more = λ any finished. finished;
+undone_leaves : (start : Format) (before new : History) (last : Change) → last.rid.slot < length (page_of before last.rid.page)
+    → Undone start before last new → Leaves before last.txn new
+undone_leaves start before new last inside undone =
+    undone_either start before new last (Leaves before last.txn) undone
+    (λ lsn above right. record {
+      finished = λ any. (λ finished. finished, λ finished. finished);
       records = λ any has. has;
       sizes = λ page. size_stays before (undo_for lsn last) page inside;
     })
-undo_leaves format before settled last lsn inside (inr differs) =
-    subst (λ (h : History). Leaves before last.txn (undoes (undo_for lsn last) ∷ h)) (sym differs.1.2)
-    (record {
-      pending = refl;
-      kept = λ any finished. finished;
-      no_more = λ any finished. finished;
+    (λ next lsn above later wrong. record {
+      finished = λ any. (λ finished. finished, λ finished. finished);
       records = λ any has. elim has [ inl undone ↦ inl undone | inr earlier ↦ earlier ];
       sizes = λ page. size_stays before (undo_for lsn last) page inside;
     })
 
--- so each undo leaves that
-undone_leaves : (format : Format) (before new : History) (last : Change) → last.rid.slot < length (page_of before last.rid.page)
-    → Undone format before last new → Leaves before last.txn new
-undone_leaves format before new last inside undone =
-    subst (Leaves before last.txn) (sym undone.new_is) (undo_leaves format before undone.settled last undone.lsn inside undone.settles)
-
 -- the history in which nothing is pending any more
-record AllAreUndone (format : Format) (before new : History) : Type 0 where
-  legal : IsLegal format new
+record AllAreUndone (start : Format) (before new : History) : Type 0 where
+  legal : IsLegal start new
   none : all_pending new ≡ []
-  kept : (any : ℕ) → IsFinished before any → IsFinished new any
-  no_more : (any : ℕ) → IsFinished new any → IsFinished before any
+  finished : (any : ℕ) → IsFinished new any ↔ IsFinished before any
   records : (any : ℕ) → HasRecord new any → HasRecord before any
   rows : rows_of_log new ≡ rows_of_log before
   sizes : (page : ℕ) → length (page_of new page) ≡ length (page_of before page)
 
--- the transaction of the newest of all that is pending has a record
-pub newest_has_record : (history : History) (last : Change) (rest : List Change) → all_pending history ≡ last ∷ rest → HasRecord history last.txn
-newest_has_record history last rest is = last_has_record history last.txn last (of_txn last.txn rest) (pending_of-newest history last rest is)
-
 -- undoing these, which are all that is pending, gives that history
-all_are_undone : (format : Format) (before new : History) (all : List Change) → IsLegal format before → all_pending before ≡ all
-    → AllUndone format before all new → AllAreUndone format before new
-all_are_undone format before new [] legal is undone =
-    subst (AllAreUndone format before) (sym undone)
+all_are_undone : (start : Format) (before new : History) (all : List Change) → IsLegal start before → all_pending before ≡ all
+    → AllUndone start before all new → AllAreUndone start before new
+all_are_undone start before new [] legal is undone =
+    subst (AllAreUndone start before) (sym undone)
     (record {
       legal = legal;
       none = is;
-      kept = λ any finished. finished;
-      no_more = λ any finished. finished;
+      finished = λ any. (λ finished. finished, λ finished. finished);
       records = λ any has. has;
       rows = refl;
       sizes = λ page. refl;
     })
-all_are_undone format before new (last ∷ rest) legal is undone =
+all_are_undone start before new (last ∷ rest) legal is undone =
     let mid : History = undone.0 in
     let mine : pending_of before last.txn ≡ last ∷ of_txn last.txn rest = pending_of-newest before last rest is in
     let unfinished : IsFinished before last.txn → ⊥ =
-    last_is_unfinished before (legal_is_in_order format before legal) last.txn last (of_txn last.txn rest) mine in
-    let one : IsUndone format before last.txn (of_txn last.txn rest) mid =
-    no_undo_lacks_room format before mid last.txn last (of_txn last.txn rest) legal unfinished mine undone.1 in
-    let left : Leaves before last.txn mid = undone_leaves format before mid last (last_is_inside before last.txn last (of_txn last.txn rest) mine) undone.1 in
-    let is_mid : all_pending mid ≡ rest = left.pending ∙ ap (λ (l : List Change). without_newest l last.txn) is ∙ without_newest-head last rest in
-    let more : AllAreUndone format mid new = all_are_undone format mid new rest one.legal is_mid undone.2 in
+    last_is_unfinished before (legal_is_in_order start before legal) last.txn last (of_txn last.txn rest) mine in
+    let one : IsUndone start before last.txn (of_txn last.txn rest) mid =
+    no_undo_lacks_room start before mid last.txn last (of_txn last.txn rest) legal unfinished mine undone.1 in
+    let left : Leaves before last.txn mid = undone_leaves start before mid last (last_is_inside before last.txn last (of_txn last.txn rest) mine) undone.1 in
+    let more : AllAreUndone start mid new =
+    all_are_undone start mid new rest one.legal (all_pending_undone start before mid last rest is undone.1) undone.2 in
     record {
       legal = more.legal;
       none = more.none;
-      kept = λ any finished. more.kept any (left.kept any finished);
-      no_more = λ any finished. left.no_more any (more.no_more any finished);
+      finished = λ any. (
+        λ finished. (left.finished any).0 ((more.finished any).0 finished),
+        λ finished. (more.finished any).1 ((left.finished any).1 finished),
+      );
       records = λ any has. elim (left.records any (more.records any has)) [
-        | inl now ↦ subst (HasRecord before) now (newest_has_record before last rest is)
+        | inl now ↦ subst (HasRecord before) now (last_has_record before last.txn last (of_txn last.txn rest) mine)
         | inr earlier ↦ earlier
       ];
       rows = more.rows ∙ one.rows;
@@ -173,8 +155,8 @@ all_are_undone format before new (last ∷ rest) legal is undone =
 -- ---- and all losers end
 
 -- the history in which these transactions have ended
-record AllHaveEnded (format : Format) (before : History) (txns : List ℕ) (new : History) : Type 0 where
-  legal : IsLegal format new
+record AllHaveEnded (start : Format) (before : History) (txns : List ℕ) (new : History) : Type 0 where
+  legal : IsLegal start new
   pending : (any : ℕ) → pending_of new any ≡ pending_of before any
   finished : (any : ℕ) → IsAmong txns any → IsFinished new any
   kept : (any : ℕ) → IsFinished before any → IsFinished new any
@@ -183,11 +165,11 @@ record AllHaveEnded (format : Format) (before : History) (txns : List ℕ) (new 
   sizes : (page : ℕ) → length (page_of new page) ≡ length (page_of before page)
 
 -- the end of these, none of which is finished or has a change pending, gives that history
-all_have_ended : (format : Format) (before new : History) (txns : List ℕ) → IsLegal format before → AreRising txns
+all_have_ended : (start : Format) (before new : History) (txns : List ℕ) → IsLegal start before → AreRising txns
     → ((txn : ℕ) → IsAmong txns txn → IsFinished before txn → ⊥)
-    → ((txn : ℕ) → pending_of before txn ≡ []) → AllEnded before txns new → AllHaveEnded format before txns new
-all_have_ended format before new [] legal rise unfinished none ended =
-    subst (AllHaveEnded format before []) (sym ended)
+    → ((txn : ℕ) → pending_of before txn ≡ []) → AllEnded before txns new → AllHaveEnded start before txns new
+all_have_ended start before new [] legal rise unfinished none ended =
+    subst (AllHaveEnded start before []) (sym ended)
     (record {
       legal = legal;
       pending = λ any. refl;
@@ -197,14 +179,14 @@ all_have_ended format before new [] legal rise unfinished none ended =
       rows = refl;
       sizes = λ page. refl;
     })
-all_have_ended format before new (txn ∷ rest) legal rise unfinished none ended =
+all_have_ended start before new (txn ∷ rest) legal rise unfinished none ended =
     let mid : History = ended.0 in
-    let one : HasEnded format before txn mid = has_ended format before mid txn legal (unfinished txn (inl refl)) (none txn) ended.1 in
+    let one : HasEnded start before txn mid = has_ended start before mid txn legal (unfinished txn (inl refl)) (none txn) ended.1 in
     let others : (any : ℕ) → IsAmong rest any → IsFinished mid any → ⊥ = λ any among finished. elim (one.no_more any finished) [
       | inl same ↦ let above : txn < any = rise.0 any among in omega (arith, same)
       | inr earlier ↦ unfinished any (inr among) earlier
     ] in
-    let more : AllHaveEnded format mid rest new = all_have_ended format mid new rest one.legal rise.1 others (λ any. one.pending any ∙ none any) ended.2 in
+    let more : AllHaveEnded start mid rest new = all_have_ended start mid new rest one.legal rise.1 others (λ any. one.pending any ∙ none any) ended.2 in
     record {
       legal = more.legal;
       pending = λ any. more.pending any ∙ one.pending any;
@@ -248,15 +230,13 @@ settled_alike history other page rows sizes =
 
 -- ---- a compensation for each pending change
 
-count_settled : (start : Format) (before settled : History) (last : Change) → Settles start before last settled → undo_count settled ≡ undo_count before
-count_settled start before settled last (inl stays) = ap undo_count stays.1
-count_settled start before settled last (inr differs) = ap undo_count differs.1.2
-
 count_undone : (start : Format) (before new : History) (all : List Change) → AllUndone start before all new → undo_count new ≡ undo_count before + length all
 count_undone start before new [] undone = omega (arith, ap undo_count undone)
 count_undone start before new (last ∷ rest) undone =
-    let one : Undone start before last undone.0 = undone.1 in
-    omega (arith, ap undo_count one.new_is, count_settled start before one.settled last one.settles, count_undone start undone.0 new rest undone.2)
+    let one : undo_count undone.0 ≡ undo_count before + 1 =
+    undone_either start before undone.0 last (λ h. undo_count h ≡ undo_count before + 1) undone.1
+    (λ lsn above right. refl) (λ next lsn above later wrong. refl) in
+    omega (arith, one, count_undone start undone.0 new rest undone.2)
 
 count_ended : (before new : History) (txns : List ℕ) → AllEnded before txns new → undo_count new ≡ undo_count before
 count_ended before new [] ended = ap undo_count ended
@@ -270,29 +250,29 @@ restarts_compensate_all start before new restarted =
 -- ---- the theorem
 
 -- where nothing is pending each entry is right
-all_entered : (format : Format) (history : History) → IsLegal format history → ((txn : ℕ) → pending_of history txn ≡ []) → (page : ℕ)
-    → entry_of history page ≡ category_of format (page_of history page)
-all_entered format history legal none page = elim (entries_follow format history legal page) [
+all_entered : (start : Format) (history : History) → IsLegal start history → ((txn : ℕ) → pending_of history txn ≡ []) → (page : ℕ)
+    → entry_of history page ≡ category_of start (page_of history page)
+all_entered start history legal none page = elim (entries_follow start history legal page) [
   | inl right ↦ right
   | inr pending ↦ absurd (pending.1 (ap (on_page page) (none pending.0)))
 ]
 
 -- all that is pending is undone, all losers end, and the pages hold the committed rows then
 pub restarts_are_legal : RestartsAreLegal
-restarts_are_legal format before new legal restarted =
+restarts_are_legal start before new legal restarted =
     let mid : History = restarted.undone in
-    let undone : AllAreUndone format before mid = all_are_undone format before mid (all_pending before) legal refl restarted.undoes_all in
+    let undone : AllAreUndone start before mid = all_are_undone start before mid (all_pending before) legal refl restarted.undoes_all in
     let unfinished : (txn : ℕ) → IsAmong (losers_of before) txn → IsFinished mid txn → ⊥ =
-    λ txn loses finished. losers_are_unfinished before (legal_is_in_order format before legal) txn loses (undone.no_more txn finished) in
-    let over : AllHaveEnded format mid (losers_of before) new =
-    all_have_ended format mid new (losers_of before) undone.legal (losers_rise before) unfinished (pending_of-none mid undone.none) restarted.ends_all in
+    λ txn loses finished. ((losers_are_unfinished.exact before (legal_is_in_order start before legal) txn).0 loses).1 ((undone.finished txn).0 finished) in
+    let over : AllHaveEnded start mid (losers_of before) new =
+    all_have_ended start mid new (losers_of before) undone.legal (losers_rise before) unfinished (pending_of-none mid undone.none) restarted.ends_all in
     let none : (txn : ℕ) → pending_of new txn ≡ [] = λ txn. over.pending txn ∙ pending_of-none mid undone.none txn in
     let rows : rows_of_log new ≡ rows_of_log before = over.rows ∙ undone.rows in
-    let had : (txn : ℕ) → HasRecord before txn → IsFinished new txn = λ txn has. elim (losers_are_all before txn has) [
-      | inl finished ↦ over.kept txn (undone.kept txn finished)
-      | inr loses ↦ over.finished txn loses
+    let had : (txn : ℕ) → HasRecord before txn → IsFinished new txn = λ txn has. elim (finished_or_not before txn) [
+      | inl finished ↦ over.kept txn ((undone.finished txn).1 finished)
+      | inr not ↦ over.finished txn ((losers_are_unfinished.exact before (legal_is_in_order start before legal) txn).1 (has, not))
     ] in
-    let ordered : IsInOrder new = legal_is_in_order format new over.legal in
+    let ordered : IsInOrder new = legal_is_in_order start new over.legal in
     let pages : (page : ℕ) → page_of new page ≡ settled_of before page = λ page.
     page_is_settled new ordered none page ∙ settled_alike new before page rows (over.sizes page ∙ undone.sizes page) in
     record {
@@ -304,5 +284,5 @@ restarts_are_legal format before new legal restarted =
           pages_hold_what_is_committed new ordered rid (λ txn changed. changed_none (pending_of new txn) rid (none txn) changed)
           ∙ ap (λ (r : Rows). r rid) rows;
       pages = pages;
-      entered = λ page. all_entered format new over.legal none page ∙ ap (category_of format) (pages page);
+      entered = λ page. all_entered start new over.legal none page ∙ ap (category_of start) (pages page);
     }

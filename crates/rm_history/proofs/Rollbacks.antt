@@ -12,7 +12,7 @@ use Rattle.rm_history.specs.Legal.{IsLegal}
 use Rattle.rm_history.specs.Undoing.{AllUndone, Ended}
 use Rattle.rm_history.specs.UndoLaws.{IsUndone, RollbacksAreLegal, PartialRollbacksAreLegal}
 use Rattle.rm_history.proofs.Prefixes.{legal_is_in_order}
-use Rattle.rm_history.proofs.ChainSteps.{pending-ended}
+use Rattle.rm_history.proofs.PendingLaws.{pending-ended}
 use Rattle.rm_history.proofs.NeedSums.{finish_fits}
 use Rattle.rm_history.proofs.Following.{entries_follow_end}
 use Rattle.rm_history.proofs.UndoTheorem.{fits_in_order, entries_follow, no_undo_lacks_room}
@@ -44,8 +44,8 @@ partial_rollbacks_are_legal start before new txn rest legal unfinished back =
 -- ---- a transaction ends that has nothing pending
 
 -- the history in which a transaction has ended
-pub record HasEnded (format : Format) (before : History) (txn : ℕ) (new : History) : Type 0 where
-  pub legal : IsLegal format new
+pub record HasEnded (start : Format) (before : History) (txn : ℕ) (new : History) : Type 0 where
+  pub legal : IsLegal start new
   pub pending : (any : ℕ) → pending_of new any ≡ pending_of before any
   pub finished : IsFinished new txn
   pub kept : (any : ℕ) → IsFinished before any → IsFinished new any
@@ -55,17 +55,17 @@ pub record HasEnded (format : Format) (before : History) (txn : ℕ) (new : Hist
   pub pages : (page : ℕ) → page_of new page ≡ page_of before page
 
 -- the end of a transaction that has nothing pending gives that history
-pub has_ended : (format : Format) (before new : History) (txn : ℕ) → IsLegal format before → (IsFinished before txn → ⊥)
-    → pending_of before txn ≡ [] → Ended before txn new → HasEnded format before txn new
-has_ended format before new txn legal unfinished none ended =
+pub has_ended : (start : Format) (before new : History) (txn : ℕ) → IsLegal start before → (IsFinished before txn → ⊥)
+    → pending_of before txn ≡ [] → Ended before txn new → HasEnded start before txn new
+has_ended start before new txn legal unfinished none ended =
     let f : Finish = record { lsn = ended.lsn; txn = txn } in
     let may : MayEnd before f = record { unfinished = unfinished; none = none } in
-    subst (λ (h : History). HasEnded format before txn h) (sym ended.new_is)
+    subst (λ (h : History). HasEnded start before txn h) (sym ended.new_is)
     (record {
       legal = (
         legal,
-        record { above = ended.above; may_come = may; fits = finish_fits before f (fits_in_order before (legal_is_in_order format before legal)) },
-        record { entered = tt; follow = entries_follow_end format before f may (entries_follow format before legal) },
+        record { above = ended.above; may_come = may; fits = finish_fits before f (fits_in_order before (legal_is_in_order start before legal)) },
+        record { entered = tt; follow = entries_follow_end start before f may (entries_follow start before legal) },
       );
       pending = λ any. pending-ended f before any may;
       finished = inl refl;
@@ -80,8 +80,8 @@ has_ended format before new txn legal unfinished none ended =
 
 -- all of a transaction's changes are undone, and then it ends
 pub rollbacks_are_legal : RollbacksAreLegal
-rollbacks_are_legal format before new txn legal unfinished back =
-    let undone : IsUndone format before txn [] back.undone =
-    newest_undone format before back.undone txn (pending_of before txn) [] legal unfinished (sym (append-nil (pending_of before txn))) back.undoes_all in
-    let over : HasEnded format back.undone txn new = has_ended format back.undone new txn undone.legal undone.unfinished undone.pending back.ends_it in
+rollbacks_are_legal start before new txn legal unfinished back =
+    let undone : IsUndone start before txn [] back.undone =
+    newest_undone start before back.undone txn (pending_of before txn) [] legal unfinished (sym (append-nil (pending_of before txn))) back.undoes_all in
+    let over : HasEnded start back.undone txn new = has_ended start back.undone new txn undone.legal undone.unfinished undone.pending back.ends_it in
     (over.legal, over.finished, over.rows ∙ undone.rows)

@@ -1,5 +1,5 @@
 -- What fits is exactly what leaves each page room.
-use Rattle.std.proofs.Common.{◌≡◌, ℕ, zero, suc, ◌+◌, ◌-◌, ◌==◌, if◌then◌else◌, ◌<◌, ◌≤◌, List, [], ◌∷◌, length, max, inl, inr}
+use Rattle.std.proofs.Common.{◌≡◌, ℕ, zero, suc, ◌+◌, ◌-◌, ◌==◌, if◌then◌else◌, ◌<◌, ◌≤◌, List, [], ◌∷◌, length, inl, inr}
 use Rattle.std.proofs.Common.{refl, sym, ap, subst, ◌∙◌, arith}
 use Rattle.std.proofs.lemmas.Bool.{cases_eq, cases_lt, eq-eqb, ne_eqb}
 use Rattle.std.proofs.lemmas.List.{get_or_past}
@@ -15,7 +15,7 @@ use Rattle.rm_history.specs.Transactions.{greatest_txn}
 use Rattle.rm_history.specs.Needs.{on_page, need_for, need_of, sum_below, FitsOn, Fits}
 use Rattle.rm_history.specs.Room.{others_need, growth_for}
 use Rattle.rm_history.specs.RoomLaws.{FittingIsRoom}
-use Rattle.rm_history.proofs.NeedSums.{sum_below-same, sum_below-one, sum_below-more, used-inside, need_of-change}
+use Rattle.rm_history.proofs.NeedSums.{sum_below-same, sum_below-one, sum_below-more, need_of-change}
 use Rattle.rm_history.proofs.NeedSums.{need_of-change_other, pending_on-change, fits_as_before}
 use Rattle.rm_history.proofs.PendingSteps.{if_different}
 
@@ -103,7 +103,7 @@ pending_past (marks m ∷ before) txn past = pending_past before txn past
 need_past : (history : History) (page txn : ℕ) → greatest_txn history + 1 ≤ txn → need_of history txn page ≡ 0
 need_past history page txn past = ap (λ (all : List Change). need_for (on_page page all)) (pending_past history txn (omega (arith, past)))
 
--- ---- one change more
+-- ---- one more change
 
 -- the bytes that the change's page has in use with it
 abbrev bytes_with : History → Change → ℕ
@@ -146,50 +146,18 @@ inside_where_row slots number row holds = elim (cases_lt number (length slots)) 
   | inr past ↦ let vacant : Vacant ≡ Row row = sym (get_or_past slots number Vacant past) ∙ holds in absurd cc
 ]
 
--- a row in a vacant slot adds its bytes and those of the directory
-bytes_of_row : (before : History) (c : Change) (row : List ℕ) → slot_at (page_of before c.rid.page) c.rid.slot ≡ c.before
-    → c.before ≡ Vacant → c.after ≡ Row row
-    → bytes_with before c + need_with before c
-    ≡ used (page_of before c.rid.page) + growth_for (length (page_of before c.rid.page)) c.rid.slot + max (length row) (need_of before c.txn c.rid.page)
-bytes_of_row before c row held was now =
-    omega (
-      arith,
-      ap row_length held,
-      ap row_length was,
-      ap row_length now,
-      used-set_slot (page_of before c.rid.page) c.rid.slot c.after,
-      need_of-change before c c.rid.page refl,
-    )
+-- the change gives up the bytes that its slot held, and takes those that it holds and those of the directory's growth;
+-- its transaction's undo needs those that it gave up, and no more those that it took
+record Bytes (before : History) (c : Change) : Type 0 where
+  used_is : bytes_with before c + row_length c.before
+      ≡ used (page_of before c.rid.page) + growth_for (length (page_of before c.rid.page)) c.rid.slot + row_length c.after
+  need_is : need_with before c ≡ (need_of before c.txn c.rid.page + row_length c.before) - row_length c.after
 
--- a row in place of another adds the bytes by which it is longer
-bytes_of_growth : (before : History) (c : Change) (old new : List ℕ) → slot_at (page_of before c.rid.page) c.rid.slot ≡ c.before
-    → c.before ≡ Row old → c.after ≡ Row new
-    → bytes_with before c + need_with before c ≡ used (page_of before c.rid.page) + max (length new - length old) (need_of before c.txn c.rid.page)
-bytes_of_growth before c old new held was now =
-    let inside : c.rid.slot < length (page_of before c.rid.page) = inside_where_row (page_of before c.rid.page) c.rid.slot old (held ∙ was) in
-    omega (
-      arith,
-      ap row_length held,
-      ap row_length was,
-      ap row_length now,
-      used-inside (page_of before c.rid.page) c.rid.slot c.after inside,
-      need_of-change before c c.rid.page refl,
-    )
-
--- and no row in its place adds none
-bytes_of_delete : (before : History) (c : Change) (old : List ℕ) → slot_at (page_of before c.rid.page) c.rid.slot ≡ c.before
-    → c.before ≡ Row old → c.after ≡ Vacant
-    → bytes_with before c + need_with before c ≡ used (page_of before c.rid.page) + need_of before c.txn c.rid.page
-bytes_of_delete before c old held was now =
-    let inside : c.rid.slot < length (page_of before c.rid.page) = inside_where_row (page_of before c.rid.page) c.rid.slot old (held ∙ was) in
-    omega (
-      arith,
-      ap row_length held,
-      ap row_length was,
-      ap row_length now,
-      used-inside (page_of before c.rid.page) c.rid.slot c.after inside,
-      need_of-change before c c.rid.page refl,
-    )
+bytes_of : (before : History) (c : Change) → slot_at (page_of before c.rid.page) c.rid.slot ≡ c.before → Bytes before c
+bytes_of before c held = record {
+  used_is = omega (arith, ap row_length held, used-set_slot (page_of before c.rid.page) c.rid.slot c.after);
+  need_is = need_of-change before c c.rid.page refl;
+}
 
 -- ---- the law
 
@@ -204,10 +172,18 @@ room_before before c fits =
 pub fitting_is_room : FittingIsRoom
 fitting_is_room = record {
   row = λ before c row fits held was now.
-      let bytes = bytes_of_row before c row held was now in
-      (λ room. pages_fit before c fits (omega (arith, room, bytes)), λ all. omega (arith, page_fits before c all, bytes));
+      let b : Bytes before c = bytes_of before c held in (
+        λ room. pages_fit before c fits (omega (arith, room, b.used_is, b.need_is, ap row_length was, ap row_length now)),
+        λ all. omega (arith, page_fits before c all, b.used_is, b.need_is, ap row_length was, ap row_length now),
+      );
   growth = λ before c old new fits held was now.
-      let bytes = bytes_of_growth before c old new held was now in
-      (λ room. pages_fit before c fits (omega (arith, room, bytes)), λ all. omega (arith, page_fits before c all, bytes));
-  delete = λ before c old fits held was now. pages_fit before c fits (omega (arith, room_before before c fits, bytes_of_delete before c old held was now));
+      let b : Bytes before c = bytes_of before c held in
+      let inside : c.rid.slot < length (page_of before c.rid.page) = inside_where_row (page_of before c.rid.page) c.rid.slot old (held ∙ was) in (
+        λ room. pages_fit before c fits (omega (arith, room, inside, b.used_is, b.need_is, ap row_length was, ap row_length now)),
+        λ all. omega (arith, page_fits before c all, inside, b.used_is, b.need_is, ap row_length was, ap row_length now),
+      );
+  delete = λ before c old fits held was now.
+      let b : Bytes before c = bytes_of before c held in
+      let inside : c.rid.slot < length (page_of before c.rid.page) = inside_where_row (page_of before c.rid.page) c.rid.slot old (held ∙ was) in
+      pages_fit before c fits (omega (arith, room_before before c fits, inside, b.used_is, b.need_is, ap row_length was, ap row_length now));
 }

@@ -4,18 +4,18 @@ use Rattle.std.proofs.lemmas.Bool.{cases_eq, eq-eqb, ne_eqb}
 use Rattle.rm_types.specs.declared.formats.Format.{Format}
 use Rattle.rm_types.specs.declared.formats.Format.TheVariants.{One}
 use Rattle.rm_model.specs.Pages.{used, row_length, set_slot, slot_at}
-use Rattle.rm_history.specs.Acts.{Change, Undo, Entry, History, undoes, newest_lsn}
+use Rattle.rm_history.specs.Acts.{Change, Undo, Entry, History, undoes, enters, newest_lsn}
 use Rattle.rm_history.specs.Contents.{page_of, entry_of}
 use Rattle.rm_history.specs.Pending.{pending_of}
 use Rattle.rm_history.specs.Transactions.{IsFinished}
-use Rattle.rm_history.specs.Rows.{rows_of_log}
 use Rattle.rm_history.specs.Needs.{need_of, Fits}
 use Rattle.rm_history.specs.Rules.{MayUndo, MayEnter, Follows, IsInOrder}
 use Rattle.rm_history.specs.Legal.{EntriesFollow, IsLegal}
-use Rattle.rm_history.specs.Undoing.{category_after, entry_for, undo_for, Settles, Undone}
+use Rattle.rm_history.specs.Undoing.{category_after, entry_for, undo_for, Undone}
 use Rattle.rm_history.specs.UndoLaws.{IsUndone, UndoesAreInOrder, NoUndoLacksRoom}
 use Rattle.rm_history.proofs.NeedSums.{sum_below-zero, room_kept, used-inside, pending_of-undo, pending_on-undo, need_of-undo}
 use Rattle.rm_history.proofs.NeedSums.{need_of-undo_other, fits_as_before}
+use Rattle.rm_history.proofs.UndoSteps.{undone_either}
 use Rattle.rm_history.proofs.Following.{entries_follow_undo, entries_follow_entry}
 use Rattle.rm_history.proofs.Prefixes.{legal_is_in_order}
 use Rattle.rm_history.proofs.PendingSteps.{pending-undo_other}
@@ -29,45 +29,26 @@ fits_in_order [] ordered = λ page n. omega (arith, sum_below-zero n)
 fits_in_order (act ∷ before) ordered = ordered.1.fits
 
 -- the inventory of a legal history follows
-pub entries_follow : (format : Format) (history : History) → IsLegal format history → EntriesFollow format history
+pub entries_follow : (start : Format) (history : History) → IsLegal start history → EntriesFollow start history
 entries_follow One [] legal = λ page. inl refl
-entries_follow format (act ∷ before) legal = legal.2.follow
+entries_follow start (act ∷ before) legal = legal.2.follow
 
 -- ---- the page's entry
 
--- the history in which the page of the change has the entry that undoing the change wants
-record HasEntry (format : Format) (before : History) (last : Change) (new : History) : Type 0 where
-  legal : IsLegal format new
-  pending : (txn : ℕ) → pending_of new txn ≡ pending_of before txn
-  finished : (txn : ℕ) → IsFinished new txn → IsFinished before txn
-  rows : rows_of_log new ≡ rows_of_log before
-  entered : entry_of new last.rid.page ≡ category_after format new last
-
--- so settling gives that history: the record that enters it may come, and keeps the inventory
-entered_by : (format : Format) (before settled : History) (last : Change) (rest : List Change) → IsLegal format before
-    → (IsFinished before last.txn → ⊥) → pending_of before last.txn ≡ last ∷ rest
-    → Settles format before last settled → HasEntry format before last settled
-entered_by format before settled last rest legal unfinished is (inl stays) =
-    subst (λ (h : History). HasEntry format before last h) (sym stays.1)
-    (record { legal = legal; pending = λ txn. refl; finished = λ txn f. f; rows = refl; entered = stays.0 })
-entered_by format before settled last rest legal unfinished is (inr differs) =
-    let e : Entry = entry_for format differs.1.0 before last in
-    let may : MayEnter before e = record { unfinished = unfinished; last = last; is_last = (rest, is); page_is = refl } in
-    subst (λ (h : History). HasEntry format before last h) (sym differs.1.2)
-    (record {
-      legal = (
-        legal,
-        record { above = differs.1.1; may_come = may; fits = fits_in_order before (legal_is_in_order format before legal) },
-        record {
-          entered = record { differs = λ same. differs.0 (sym same); right = inr (last, (rest, is), refl) };
-          follow = entries_follow_entry format before e may (entries_follow format before legal);
-        },
-      );
-      pending = λ txn. refl;
-      finished = λ txn f. f;
-      rows = refl;
-      entered = rw (eq-eqb last.rid.page last.rid.page refl);
-    })
+-- the record that enters what undoing the change wants may come, and keeps the inventory
+entry_is_legal : (start : Format) (before : History) (last : Change) (rest : List Change) (lsn : ℕ) → IsLegal start before
+    → (IsFinished before last.txn → ⊥) → pending_of before last.txn ≡ last ∷ rest → newest_lsn before < lsn
+    → (entry_of before last.rid.page ≡ category_after start before last → ⊥) → IsLegal start (enters (entry_for start lsn before last) ∷ before)
+entry_is_legal start before last rest lsn legal unfinished is above wrong =
+    let e : Entry = entry_for start lsn before last in
+    let may : MayEnter before e = record { unfinished = unfinished; last = last; is_last = (rest, is); page_is = refl } in (
+      legal,
+      record { above = above; may_come = may; fits = fits_in_order before (legal_is_in_order start before legal) },
+      record {
+        entered = record { differs = λ same. wrong (sym same); right = inr (last, (rest, is), refl) };
+        follow = entries_follow_entry start before e may (entries_follow start before legal);
+      },
+    )
 
 -- ---- the compensation
 
@@ -135,18 +116,18 @@ undo_follows before last rest lsn ordered unfinished is above = record {
 }
 
 -- undone in a history in which its page has the right entry
-undone_by : (format : Format) (before : History) (last : Change) (rest : List Change) (lsn : ℕ) → IsLegal format before
+undone_by : (start : Format) (before : History) (last : Change) (rest : List Change) (lsn : ℕ) → IsLegal start before
     → (IsFinished before last.txn → ⊥) → pending_of before last.txn ≡ last ∷ rest
-    → entry_of before last.rid.page ≡ category_after format before last → newest_lsn before < lsn
-    → IsUndone format before last.txn rest (undoes (undo_for lsn last) ∷ before)
-undone_by format before last rest lsn legal unfinished is entered above = record {
+    → entry_of before last.rid.page ≡ category_after start before last → newest_lsn before < lsn
+    → IsUndone start before last.txn rest (undoes (undo_for lsn last) ∷ before)
+undone_by start before last rest lsn legal unfinished is entered above = record {
   legal = (
     legal,
-    undo_follows before last rest lsn (legal_is_in_order format before legal) unfinished is above,
+    undo_follows before last rest lsn (legal_is_in_order start before legal) unfinished is above,
     record {
       entered = entered;
-      follow = entries_follow_undo format before (undo_for lsn last) (compensation_comes before last rest lsn unfinished is) entered
-          (entries_follow format before legal);
+      follow = entries_follow_undo start before (undo_for lsn last) (compensation_comes before last rest lsn unfinished is) entered
+          (entries_follow start before legal);
     },
   );
   pending = pending_of-undo before (undo_for lsn last) last rest is;
@@ -156,23 +137,18 @@ undone_by format before last rest lsn legal unfinished is entered above = record
 }
 
 -- a transaction's last pending change, undone with the entry of its page before it
-undone_mine : (format : Format) (before new : History) (last : Change) (rest : List Change) → IsLegal format before
+undone_mine : (start : Format) (before new : History) (last : Change) (rest : List Change) → IsLegal start before
     → (IsFinished before last.txn → ⊥) → pending_of before last.txn ≡ last ∷ rest
-    → Undone format before last new → IsUndone format before last.txn rest new
-undone_mine format before new last rest legal unfinished is undone =
-    let mid : History = undone.settled in
-    let there : HasEntry format before last mid = entered_by format before mid last rest legal unfinished is undone.settles in
-    let is_mid : pending_of mid last.txn ≡ last ∷ rest = there.pending last.txn ∙ is in
-    let done : IsUndone format mid last.txn rest (undoes (undo_for undone.lsn last) ∷ mid) =
-    undone_by format mid last rest undone.lsn there.legal (λ f. unfinished (there.finished last.txn f)) is_mid there.entered undone.above in
-    subst (λ (h : History). IsUndone format before last.txn rest h) (sym undone.new_is)
-    (record {
-      legal = done.legal;
-      pending = done.pending;
-      others = λ other differs. done.others other differs ∙ there.pending other;
-      unfinished = done.unfinished;
-      rows = done.rows ∙ there.rows;
-    })
+    → Undone start before last new → IsUndone start before last.txn rest new
+undone_mine start before new last rest legal unfinished is undone =
+    undone_either start before new last (IsUndone start before last.txn rest) undone
+    (λ lsn above right. undone_by start before last rest lsn legal unfinished is right above)
+    (λ next lsn above later wrong.
+    let mid : History = enters (entry_for start next before last) ∷ before in
+    let done : IsUndone start mid last.txn rest (undoes (undo_for lsn last) ∷ mid) =
+    undone_by start mid last rest lsn (entry_is_legal start before last rest next legal unfinished is above wrong) unfinished is
+    (rw (eq-eqb last.rid.page last.rid.page refl) refl) later in
+    record { legal = done.legal; pending = done.pending; others = done.others; unfinished = done.unfinished; rows = done.rows })
 
 -- an undo is in order
 pub undoes_are_in_order : UndoesAreInOrder
@@ -185,7 +161,7 @@ undoes_are_in_order before txn lsn last rest ordered unfinished is above =
 
 -- no undo lacks room
 pub no_undo_lacks_room : NoUndoLacksRoom
-no_undo_lacks_room format before new txn last rest legal unfinished is undone =
+no_undo_lacks_room start before new txn last rest legal unfinished is undone =
     let mine : last.txn ≡ txn = last_is_of before txn last rest is in
-    subst (λ (t : ℕ). IsUndone format before t rest new) mine
-    (undone_mine format before new last rest legal (λ f. unfinished (subst (λ (t : ℕ). IsFinished before t) mine f)) (ap (pending_of before) mine ∙ is) undone)
+    subst (λ (t : ℕ). IsUndone start before t rest new) mine
+    (undone_mine start before new last rest legal (λ f. unfinished (subst (λ (t : ℕ). IsFinished before t) mine f)) (ap (pending_of before) mine ∙ is) undone)

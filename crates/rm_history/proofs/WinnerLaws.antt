@@ -39,7 +39,7 @@ won-append : (log : History) (rows : Rows) (first second : List ℕ) → won log
 won-append log rows [] second = refl
 won-append log rows (txn ∷ first) second = won-append log (made rows (net log txn)) first second
 
--- the winners of a history with a record more
+-- the winners of a history with one more record
 won_after : (log : History) (rows : Rows) (newest : Act) (before : History)
     → won log rows (winners (reverse (newest ∷ before))) ≡ won log (won log rows (winners (reverse before))) (winners (newest ∷ []))
 won_after log rows newest before =
@@ -89,7 +89,7 @@ committed_net f before in_order =
 
 -- ---- rows
 
--- the rows of a log with a record more: those that were there, and then those of the transaction that it commits
+-- the rows of a log with one more record: those that were there, and then those of the transaction that it commits
 rows_after : (act : Act) (before : History) → IsInOrder (act ∷ before) → rows_of_acts (reverse before) ≡ rows_of_log before
     → rows_of_acts (reverse (act ∷ before)) ≡ won (reverse (act ∷ before)) (rows_of_log before) (winners (act ∷ []))
 rows_after act before in_order same =

@@ -65,11 +65,12 @@ pub data Act : Type 0 where
 abbrev pub History : Type 0
 History = List Act
 
--- what a record with this LSN does
+-- a change of a slot, by a record with this LSN
 abbrev pub change_at : ℕ → TxnId → Lsn → Rid → ℕ → (before after : Slot) → Act
 change_at lsn txn under rid need before after =
     changes (record { lsn = lsn; txn = txn.0; under = under.0; rid = rid; need = need; before = before; after = after })
 
+-- what a record with this LSN does
 abbrev pub act_at : ℕ → LogRecord → Act
 act_at lsn (Insert txn under rid need row) = change_at lsn txn under rid need Vacant (Row row)
 act_at lsn (Delete txn under rid need old) = change_at lsn txn under rid need (Row old) Vacant
@@ -91,7 +92,7 @@ acts_onto history (oldest ∷ log) = acts_onto (act_of oldest ∷ history) log
 abbrev pub acts_of : List Logged → History
 acts_of log = acts_onto [] log
 
--- the offset of a record
+-- the offset of a record, of no transaction and of any
 abbrev pub mark_lsn : Mark → ℕ
 mark_lsn (lists l) = l.lsn
 

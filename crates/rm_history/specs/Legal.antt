@@ -37,6 +37,7 @@ IsPendingOn history page = (txn : ℕ) × (on_page page (pending_of history txn)
 abbrev pub FollowsOn : Format → History → ℕ → Type 0
 FollowsOn start history page = (entry_of history page ≡ category_of (format_after start history) (page_of history page)) ⊎ IsPendingOn history page
 
+-- so it is with each page
 abbrev pub EntriesFollow : Format → History → Type 0
 EntriesFollow start history = (page : ℕ) → FollowsOn start history page
 

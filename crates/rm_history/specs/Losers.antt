@@ -2,7 +2,7 @@
 use Rattle.std.specs.Prelude.{◌≡◌, ℕ, ◌<◌, ◌==◌, nat_lt, if◌then◌else◌, List, [], ◌∷◌, ◌⊎◌}
 use Rattle.rm_history.specs.Acts.{History, changes, undoes, enters, commits, ends, marks}
 
--- a list of numbers that rise, with a number more, and without one
+-- a list of numbers that rise, with one more number, and without one
 abbrev pub with_number : ℕ → List ℕ → List ℕ
 with_number n [] = n ∷ []
 with_number n (first ∷ rest) = if nat_lt n first then n ∷ first ∷ rest else if n == first then first ∷ rest else first ∷ with_number n rest

@@ -30,5 +30,6 @@ sum_below f (suc n) = f n + sum_below f n
 abbrev pub FitsOn : History → ℕ → Type 0
 FitsOn history page = (n : ℕ) → used (page_of history page) + sum_below (λ txn. need_of history txn page) n ≤ CAPACITY
 
+-- each page has
 abbrev pub Fits : History → Type 0
 Fits history = (page : ℕ) → FitsOn history page

@@ -16,11 +16,11 @@ use Rattle.rm_record.specs.Fields.{slot_field, category_field, next_field, place
 abbrev pub row_parts : Reads (Change × List ℕ)
 row_parts bytes = both change_field row_field bytes
 
--- an insert after its kind
+-- what an insert has after its kind
 unfoldable pub insert_fields : Reads LogRecord
 insert_fields bytes = made (λ (change, row). log.Insert change.txn change.under change.rid change.need row) row_parts bytes
 
--- a delete after its kind
+-- what a delete has after its kind
 unfoldable pub delete_fields : Reads LogRecord
 delete_fields bytes = made (λ (change, row). log.Delete change.txn change.under change.rid change.need row) row_parts bytes
 
@@ -28,7 +28,7 @@ delete_fields bytes = made (λ (change, row). log.Delete change.txn change.under
 abbrev pub update_parts : Reads (Change × (List ℕ × List ℕ))
 update_parts bytes = both change_field (both row_field row_field) bytes
 
--- an update after its kind
+-- what an update has after its kind
 unfoldable pub update_fields : Reads LogRecord
 update_fields bytes = made (λ (change, (before, after)). log.Update change.txn change.under change.rid change.need before after) update_parts bytes
 
@@ -36,7 +36,7 @@ update_fields bytes = made (λ (change, (before, after)). log.Update change.txn 
 abbrev pub compensate_parts : Reads (TxnId × (Lsn × (Lsn × (Rid × Slot))))
 compensate_parts bytes = both txn_field (both lsn_field (both lsn_field (both rid_field slot_field))) bytes
 
--- a compensation after its kind
+-- what a compensation has after its kind
 unfoldable pub compensate_fields : Reads LogRecord
 compensate_fields bytes = made (λ (txn, (undone, (next, (rid, back)))). log.Compensate txn undone next rid back) compensate_parts bytes
 
@@ -44,15 +44,15 @@ compensate_fields bytes = made (λ (txn, (undone, (next, (rid, back)))). log.Com
 abbrev pub inventory_parts : Reads (TxnId × (ℕ × ℕ))
 inventory_parts bytes = both txn_field (both page_field category_field) bytes
 
--- an inventory record after its kind
+-- what an inventory record has after its kind
 unfoldable pub inventory_fields : Reads LogRecord
 inventory_fields bytes = made (λ (txn, (page, category)). log.Inventory txn page category) inventory_parts bytes
 
--- a commit after its kind
+-- what a commit has after its kind
 unfoldable pub commit_fields : Reads LogRecord
 commit_fields bytes = made (λ txn. log.Commit txn) txn_field bytes
 
--- an end after its kind
+-- what an end has after its kind
 unfoldable pub end_fields : Reads LogRecord
 end_fields bytes = made (λ txn. log.End txn) txn_field bytes
 
@@ -60,7 +60,7 @@ end_fields bytes = made (λ txn. log.End txn) txn_field bytes
 abbrev pub checkpoint_parts : Reads (ℕ × (List Place × (List Place × List Place)))
 checkpoint_parts bytes = both next_field (both (places_field 1 (2 ^ 32 - 1)) (both (places_field 0 (MAX_PAGES - 1)) (places_field 0 (MAX_BLOCKS - 1)))) bytes
 
--- a checkpoint after its kind
+-- what a checkpoint has after its kind
 unfoldable pub checkpoint_fields : Reads LogRecord
 checkpoint_fields bytes = made (λ (next, (losers, (pages, blocks))). log.Checkpoint next losers pages blocks) checkpoint_parts bytes
 

@@ -17,7 +17,7 @@ use crate::refused::DecodeRefused;
 use rm_types::{MAX_BLOCKS, MAX_PAGES};
 use std::alloc::Global;
 
-/// An insert after its kind byte, and the bytes after it.
+/// What an insert has after its kind byte, and the bytes after that.
 #[tactic(auto, unfolding(crate::specs::Reading::insert_fields))]
 fn insert_of(alloc: Global, bytes: &[u8]) -> Result<(LogRecord, &[u8]), DecodeRefused>
     ensures { Gives (λ x. (x.0, x.1.now)) result (insert_fields bytes.now) }
@@ -42,7 +42,7 @@ fn insert_of(alloc: Global, bytes: &[u8]) -> Result<(LogRecord, &[u8]), DecodeRe
     Ok((insert, rest))
 }
 
-/// A delete after its kind byte, and the bytes after it.
+/// What a delete has after its kind byte, and the bytes after that.
 #[tactic(auto, unfolding(crate::specs::Reading::delete_fields))]
 fn delete_of(alloc: Global, bytes: &[u8]) -> Result<(LogRecord, &[u8]), DecodeRefused>
     ensures { Gives (λ x. (x.0, x.1.now)) result (delete_fields bytes.now) }
@@ -67,7 +67,7 @@ fn delete_of(alloc: Global, bytes: &[u8]) -> Result<(LogRecord, &[u8]), DecodeRe
     Ok((delete, rest))
 }
 
-/// An update after its kind byte, and the bytes after it.
+/// What an update has after its kind byte, and the bytes after that.
 #[tactic(auto, unfolding(crate::specs::Reading::update_fields))]
 fn update_of(alloc: Global, bytes: &[u8]) -> Result<(LogRecord, &[u8]), DecodeRefused>
     ensures { Gives (λ x. (x.0, x.1.now)) result (update_fields bytes.now) }
@@ -94,7 +94,7 @@ fn update_of(alloc: Global, bytes: &[u8]) -> Result<(LogRecord, &[u8]), DecodeRe
     Ok((update, rest))
 }
 
-/// A compensation after its kind byte, and the bytes after it.
+/// What a compensation has after its kind byte, and the bytes after that.
 #[tactic(auto, unfolding(crate::specs::Reading::compensate_fields))]
 fn compensate_of(alloc: Global, bytes: &[u8]) -> Result<(LogRecord, &[u8]), DecodeRefused>
     ensures { Gives (λ x. (x.0, x.1.now)) result (compensate_fields bytes.now) }
@@ -114,7 +114,7 @@ fn compensate_of(alloc: Global, bytes: &[u8]) -> Result<(LogRecord, &[u8]), Deco
     Ok((compensation, rest))
 }
 
-/// An inventory record after its kind byte, and the bytes after it.
+/// What an inventory record has after its kind byte, and the bytes after that.
 #[tactic(auto, unfolding(crate::specs::Reading::inventory_fields))]
 fn inventory_of(bytes: &[u8]) -> Result<(LogRecord, &[u8]), DecodeRefused>
     ensures { Gives (λ x. (x.0, x.1.now)) result (inventory_fields bytes.now) }
@@ -130,7 +130,7 @@ fn inventory_of(bytes: &[u8]) -> Result<(LogRecord, &[u8]), DecodeRefused>
     Ok((inventory, rest))
 }
 
-/// A commit after its kind byte, and the bytes after it.
+/// What a commit has after its kind byte, and the bytes after that.
 #[tactic(auto, unfolding(crate::specs::Reading::commit_fields))]
 fn commit_of(bytes: &[u8]) -> Result<(LogRecord, &[u8]), DecodeRefused>
     ensures { Gives (λ x. (x.0, x.1.now)) result (commit_fields bytes.now) }
@@ -139,7 +139,7 @@ fn commit_of(bytes: &[u8]) -> Result<(LogRecord, &[u8]), DecodeRefused>
     Ok((LogRecord::Commit { txn }, rest))
 }
 
-/// An end after its kind byte, and the bytes after it.
+/// What an end has after its kind byte, and the bytes after that.
 #[tactic(auto, unfolding(crate::specs::Reading::end_fields))]
 fn end_of(bytes: &[u8]) -> Result<(LogRecord, &[u8]), DecodeRefused>
     ensures { Gives (λ x. (x.0, x.1.now)) result (end_fields bytes.now) }
@@ -148,7 +148,7 @@ fn end_of(bytes: &[u8]) -> Result<(LogRecord, &[u8]), DecodeRefused>
     Ok((LogRecord::End { txn }, rest))
 }
 
-/// A checkpoint after its kind byte, and the bytes after it.
+/// What a checkpoint has after its kind byte, and the bytes after that.
 #[tactic(auto, unfolding(crate::specs::Reading::checkpoint_fields))]
 fn checkpoint_of(alloc: Global, bytes: &[u8]) -> Result<(LogRecord, &[u8]), DecodeRefused>
     ensures { Gives (λ x. (x.0, x.1.now)) result (checkpoint_fields bytes.now) }
@@ -166,7 +166,7 @@ fn checkpoint_of(alloc: Global, bytes: &[u8]) -> Result<(LogRecord, &[u8]), Deco
     Ok((checkpoint, rest))
 }
 
-/// A record of this kind after its kind byte, and the bytes after it.
+/// What a record of this kind has after its kind byte, and the bytes after that.
 #[tactic(auto, unfolding(crate::specs::Reading::fields_of))]
 fn fields_of(alloc: Global, kind: u8, bytes: &[u8]) -> Result<(LogRecord, &[u8]), DecodeRefused>
     ensures { Gives (λ x. (x.0, x.1.now)) result (fields_of kind bytes.now) }
