@@ -1,12 +1,11 @@
 -- Redo brings a block that stands for a log up to the log.
-use Rattle.std.proofs.Common.{◌≡◌, inl, inr, ℕ, ◌+◌, ◌*◌, ◌/◌, ◌≤◌, ◌<◌, ◌&&◌, Bool, true, false, cond, eqb, nat_le, nat_lt, List, [], ◌∷◌, refl, sym, ap, subst, ◌∙◌, arith}
+use Rattle.std.proofs.Common.{◌≡◌, inl, inr, ℕ, ◌+◌, ◌*◌, ◌≤◌, ◌<◌, ◌&&◌, Bool, true, false, cond, nat_le, nat_lt, List, [], ◌∷◌, refl, sym, ap, subst, ◌∙◌, arith}
 use Rattle.std.proofs.Math.Bool.{and-false}
-use Rattle.std.proofs.lemmas.Bool.{cases_lt, eq-eqb, le-leb, le-ltb, and_from}
+use Rattle.std.proofs.lemmas.Bool.{cases_lt, le-leb, le-ltb, and_from}
 use Rattle.rm_types.specs.declared.numbers.TheConstants.{BLOCK_PAGES}
 use Rattle.rm_types.specs.declared.slots.Slot.{Slot}
-use Rattle.rm_model.specs.Pages.{set_slot}
-use Rattle.rm_history.specs.Acts.{Act, Entry, History, changes, undoes, enters, commits, ends, marks, lsn_of, newest_lsn}
-use Rattle.rm_history.specs.Contents.{page_of, version_of, entry_of, block_version_of}
+use Rattle.rm_history.specs.Acts.{Act, History, lsn_of, newest_lsn}
+use Rattle.rm_history.specs.Contents.{page_of, version_of, page_after, version_after, entry_after, block_version_after}
 use Rattle.rm_history.specs.Rules.{IsInOrder}
 use Rattle.rm_image.specs.Standing.{Stands, IsOnPage, IsInBlock, HoldsEntries}
 use Rattle.rm_image.specs.Redo.{PageBlock, EntriesBlock, repeated, entry_repeated, is_due, redone}
@@ -74,24 +73,13 @@ module _ (B : Type 0) (version : B → ℕ) (after : Act → B → B) (Is : B �
 abbrev pub HasSlots : PageBlock → ℕ → List Slot → Type 0
 HasSlots block version slots = (block.version ≡ version) × (block.slots ≡ slots)
 
--- so it has after a record that sets a slot of the page, or of another
-slot_set : (here : Bool) (lsn number : ℕ) (slot : Slot) (block : PageBlock) (version : ℕ) (slots : List Slot) → HasSlots block version slots
-    → HasSlots (cond here (record { version = lsn; slots = set_slot block.slots number slot }) block) (cond here lsn version) (cond here (set_slot slots number slot) slots)
-slot_set true lsn number slot block version slots has = (refl, ap (λ (s : List Slot). set_slot s number slot) has.1)
-slot_set false lsn number slot block version slots has = has
-
 module _ (page : ℕ) where
   -- the block holds what the history says of the page
   abbrev pub IsPage : PageBlock → History → Type 0
   IsPage block history = HasSlots block (version_of history page) (page_of history page)
 
   page_goes_on : (act : Act) (before : History) (block : PageBlock) → IsPage block before → IsPage (repeated page act block) (act ∷ before)
-  page_goes_on (changes c) before block is = slot_set (eqb c.rid.page page) c.lsn c.rid.slot c.after block (version_of before page) (page_of before page) is
-  page_goes_on (undoes u) before block is = slot_set (eqb u.rid.page page) u.lsn u.rid.slot u.back block (version_of before page) (page_of before page) is
-  page_goes_on (enters e) before block is = is
-  page_goes_on (commits f) before block is = is
-  page_goes_on (ends f) before block is = is
-  page_goes_on (marks m) before block is = is
+  page_goes_on act before block is = (ap (version_after act page) is.0, ap (page_after act page) is.1)
 
   -- redo may stand on that
   pub page_redo : IsRedo PageBlock (λ b. b.version) (repeated page) IsPage (IsOnPage page)
@@ -111,32 +99,15 @@ redo_brings_pages_up gates history page version slots redo from ordered le stand
 
 -- ---- a block of the inventory
 
--- the entry of a page after a record that enters a category of this page or another
-entry_set : (here : Bool) (category other : ℕ) (old : ℕ) → old ≡ other → cond here category old ≡ cond here category other
-entry_set here category other old same = ap (λ (n : ℕ). cond here category n) same
-
 module _ (number : ℕ) where
   -- the block holds what the history says of its pages
   abbrev pub AreEntries : EntriesBlock → History → Type 0
   AreEntries block history = HoldsEntries number block.version block.entries history
 
-  entered : (here : Bool) (e : Entry) (before : History) (block : EntriesBlock) → eqb (e.page / BLOCK_PAGES) number ≡ here → AreEntries block before
-      → AreEntries (cond here (record { version = e.lsn; entries = λ index. cond (eqb e.page (BLOCK_PAGES * number + index)) e.category (block.entries index) }) block) (enters e ∷ before)
-  entered true e before block is_here is = (
-    ap (λ (b : Bool). cond b e.lsn (block_version_of before number)) (sym is_here),
-    λ index inside. entry_set (eqb e.page (BLOCK_PAGES * number + index)) e.category (entry_of before (BLOCK_PAGES * number + index)) (block.entries index) (is.1 index inside),
-  )
-  entered false e before block is_here is =
-      let off : IsInBlock number (enters e) → ⊥ = λ on. let yes : eqb (e.page / BLOCK_PAGES) number ≡ true = eq-eqb (e.page / BLOCK_PAGES) number on in cc in
-      (is.0 ∙ sym (block_version_off number (enters e) before off), λ index inside. is.1 index inside ∙ sym (entry_off number (enters e) before off index inside))
-
-  entries_go_on : (act : Act) (before : History) (block : EntriesBlock) → AreEntries block before → AreEntries (entry_repeated number act block) (act ∷ before)
-  entries_go_on (changes c) before block is = is
-  entries_go_on (undoes u) before block is = is
-  entries_go_on (enters e) before block is = entered (eqb (e.page / BLOCK_PAGES) number) e before block refl is
-  entries_go_on (commits f) before block is = is
-  entries_go_on (ends f) before block is = is
-  entries_go_on (marks m) before block is = is
+  entries_go_on : (act : Act) (before : History) (block : EntriesBlock)
+      → AreEntries block before → AreEntries (entry_repeated number act block) (act ∷ before)
+  entries_go_on act before block is =
+      (ap (block_version_after act number) is.0, λ index inside. ap (entry_after act (BLOCK_PAGES * number + index)) (is.1 index inside))
 
   -- redo may stand on that
   pub entries_redo : IsRedo EntriesBlock (λ b. b.version) (entry_repeated number) AreEntries (IsInBlock number)
