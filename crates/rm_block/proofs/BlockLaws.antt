@@ -8,18 +8,20 @@ use Rattle.rm_types.specs.declared.slots.Slot.TheVariants.{Vacant, Row}
 use Rattle.rm_model.specs.Pages.{slot_at}
 use Rattle.rm_outside.specs.Images.{Bytes, Shows}
 use Rattle.rm_outside.proofs.ShowsLemmas.{shows_once}
-use Rattle.rm_block.specs.Blocks.{slot_entry_at, HasSlot, IsDataBlock}
+use Rattle.rm_block.specs.Blocks.{HasSlot, IsDataBlock}
 use Rattle.rm_block.specs.Laws.{DataBlocksAreOne, InventoryBlocksAreOne}
 
 module _ (area : Bytes) where
   -- two bytes, and eight, show one number
-  pub number_once : (at n m : ℕ) → n < 2 ^ 16 → m < 2 ^ 16 → Shows area at (to_be_bytes w16 n) → Shows area at (to_be_bytes w16 m) → n ≡ m
+  pub number_once : (at n m : ℕ) → n < 2 ^ 16 → m < 2 ^ 16 → Shows area at (to_be_bytes w16 n)
+      → Shows area at (to_be_bytes w16 m) → n ≡ m
   number_once at n m small other_small shown other_shown =
       sym (from_be_bytes-to_be_bytes_2 n small)
       ∙ ap (from_be_bytes w16) (shows_once (to_be_bytes w16 n) (to_be_bytes w16 m) shown other_shown refl)
       ∙ from_be_bytes-to_be_bytes_2 m other_small
 
-  pub lsn_once : (at n m : ℕ) → n < 2 ^ 64 → m < 2 ^ 64 → Shows area at (to_be_bytes w64 n) → Shows area at (to_be_bytes w64 m) → n ≡ m
+  pub lsn_once : (at n m : ℕ) → n < 2 ^ 64 → m < 2 ^ 64 → Shows area at (to_be_bytes w64 n)
+      → Shows area at (to_be_bytes w64 m) → n ≡ m
   lsn_once at n m small other_small shown other_shown =
       sym (from_be_bytes-to_be_bytes_8 n small)
       ∙ ap (from_be_bytes w64) (shows_once (to_be_bytes w64 n) (to_be_bytes w64 m) shown other_shown refl)
@@ -30,24 +32,25 @@ module _ (area : Bytes) where
       → HasSlot area block count number slot at → HasSlot area block count number other other_at → slot ≡ other
   slot_once block count number Vacant Vacant at other_at has other_has = refl
   slot_once block count number Vacant (Row row) at other_at has other_has =
-      absurd (other_has.0 (number_once (block + slot_entry_at number) other_at 0 (omega (arith, other_has.1.inside)) (omega arith) other_has.2 has.1))
+      absurd (other_has.0 (number_once _ other_at 0 (omega (arith, other_has.1.inside)) (omega arith) other_has.2 has.1))
   slot_once block count number (Row row) Vacant at other_at has other_has =
-      absurd (has.0 (number_once (block + slot_entry_at number) at 0 (omega (arith, has.1.inside)) (omega arith) has.2 other_has.1))
+      absurd (has.0 (number_once _ at 0 (omega (arith, has.1.inside)) (omega arith) has.2 other_has.1))
   slot_once block count number (Row row) (Row other) at other_at has other_has =
-      let places : at ≡ other_at = number_once (block + slot_entry_at number) at other_at (omega (arith, has.1.inside)) (omega (arith, other_has.1.inside)) has.2 other_has.2 in
+      let places : at ≡ other_at = number_once _ at other_at (omega (arith, has.1.inside)) (omega (arith, other_has.1.inside)) has.2 other_has.2 in
       let lengths : length row ≡ length other =
-      number_once (block + slot_entry_at number + 2) (length row) (length other) (omega (arith, has.1.short)) (omega (arith, other_has.1.short)) has.3 other_has.3 in
+      number_once _ (length row) (length other) (omega (arith, has.1.short)) (omega (arith, other_has.1.short)) has.3 other_has.3 in
       let here : Shows area (block + at) other = rw places other_has.4 in
       ap Row (shows_once row other has.4 here lengths)
 
   -- the same number of slots, each of them the same
-  slots_once : (block lsn other : ℕ) (slots others : List Slot) → IsDataBlock area block lsn slots → IsDataBlock area block other others → slots ≡ others
+  slots_once : (block lsn other : ℕ) (slots others : List Slot) → IsDataBlock area block lsn slots
+      → IsDataBlock area block other others → slots ≡ others
   slots_once block lsn other slots others is other_is =
       let count : length slots ≡ length others =
       number_once _ (length slots) (length others) (omega (arith, is.few)) (omega (arith, other_is.few)) is.count other_is.count in
       ext_get_or Vacant slots others count (λ number inside.
       let there : HasSlot area block (length slots) number (slot_at others number) (other_is.places number) = rw count (other_is.each number (omega arith)) in
-      slot_once block (length slots) number (slot_at slots number) (slot_at others number) (is.places number) (other_is.places number) (is.each number inside) there)
+      slot_once block (length slots) number _ _ (is.places number) (other_is.places number) (is.each number inside) there)
 
 -- a data block has one LSN and one list of slots
 pub data_blocks_are_one : DataBlocksAreOne

@@ -2,7 +2,7 @@
 use Rattle.std.proofs.Common.{◌≡◌, ℕ, List, [], ◌∷◌, inl, inr, refl, arith, lit≤}
 use Rattle.rm_types.specs.declared.formats.Format.TheVariants.{One}
 use Rattle.rm_types.specs.declared.slots.Slot.TheVariants.{Row}
-use Rattle.rm_block.specs.Blocks.{entry_in, IsRowAt, AreApart, space_place, IsSpacePlace}
+use Rattle.rm_block.specs.Blocks.{entry_in, IsRowAt, AreApart, IsSpacePlace}
 
 abbrev row : List ℕ
 row = 97 ∷ []

@@ -32,13 +32,16 @@ pub record IsRowAt (count at : ℕ) (row : List ℕ) : Type 0 where
 -- one of `count` slots, as it stands in the block that begins at this offset: without a row both numbers are 0
 abbrev pub HasSlot : Bytes → ℕ → ℕ → ℕ → Slot → ℕ → Type 0
 HasSlot area block count number Vacant at =
-    (at ≡ 0) × Shows area (block + slot_entry_at number) (to_be_bytes w16 0) × Shows area (block + slot_entry_at number + 2) (to_be_bytes w16 0)
-HasSlot area block count number (Row row) at = (at ≢ 0) × IsRowAt count at row × Shows area (block + slot_entry_at number) (to_be_bytes w16 at)
+    (at ≡ 0) × Shows area (block + slot_entry_at number) (to_be_bytes w16 0)
+    × Shows area (block + slot_entry_at number + 2) (to_be_bytes w16 0)
+HasSlot area block count number (Row row) at =
+    (at ≢ 0) × IsRowAt count at row × Shows area (block + slot_entry_at number) (to_be_bytes w16 at)
     × Shows area (block + slot_entry_at number + 2) (to_be_bytes w16 (length row)) × Shows area (block + at) row
 
 -- two rows that are not empty have no byte in common
 abbrev pub AreApart : ℕ → Slot → ℕ → Slot → Type 0
-AreApart a (Row first) b (Row second) = (length first ≡ 0) ⊎ ((length second ≡ 0) ⊎ ((a + length first ≤ b) ⊎ (b + length second ≤ a)))
+AreApart a (Row first) b (Row second) =
+    (length first ≡ 0) ⊎ ((length second ≡ 0) ⊎ ((a + length first ≤ b) ⊎ (b + length second ≤ a)))
 AreApart a Vacant b other = Unit {0}
 AreApart a (Row first) b Vacant = Unit {0}
 
@@ -48,7 +51,8 @@ pub record IsDataBlock (area : Bytes) (block lsn : ℕ) (slots : List Slot) : Ty
   pub count : Shows area (block + COUNT_AT) (to_be_bytes w16 (length slots))
   pub few : length slots ≤ MAX_SLOT + 1
   pub places : ℕ → ℕ
-  pub each : (number : ℕ) → number < length slots → HasSlot area block (length slots) number (slot_at slots number) (places number)
+  pub each : (number : ℕ) → number < length slots
+      → HasSlot area block (length slots) number (slot_at slots number) (places number)
   pub apart : (a b : ℕ) → a < b → b < length slots → AreApart (places a) (slot_at slots a) (places b) (slot_at slots b)
 
 -- ---- a block of the inventory
@@ -70,7 +74,8 @@ pub record IsInventoryBlock (format : Format) (area : Bytes) (block lsn : ℕ) (
   pub version : Shows area (block + LSN_AT) (to_be_bytes w64 lsn)
   pub form : area (block + FORM_AT) ≡ form_of format
   pub each : (index : ℕ) → index < BLOCK_PAGES
-      → entry_in format (area (block + ENTRIES_AT + index / entries_in_byte format)) (index % entries_in_byte format) ≡ entries index
+      → entry_in format (area (block + ENTRIES_AT + index / entries_in_byte format)) (index % entries_in_byte format)
+      ≡ entries index
 
 -- The place in area Space of a block of the inventory, as the number of a block. A checkpoint lists the block under this number.
 abbrev pub space_place : Format → ℕ → ℕ

@@ -14,7 +14,8 @@ DataBlocksAreOne = (area : Bytes) (block lsn other : ℕ) (slots others : List S
 
 -- so does a block of the inventory for its categories
 abbrev pub InventoryBlocksAreOne : Type 0
-InventoryBlocksAreOne = (format : Format) (area : Bytes) (block lsn other : ℕ) (entries others : ℕ → ℕ) → lsn < 2 ^ 64 → other < 2 ^ 64
+InventoryBlocksAreOne =
+    (format : Format) (area : Bytes) (block lsn other : ℕ) (entries others : ℕ → ℕ) → lsn < 2 ^ 64 → other < 2 ^ 64
     → IsInventoryBlock format area block lsn entries → IsInventoryBlock format area block other others
     → (lsn ≡ other) × ((index : ℕ) → index < BLOCK_PAGES → entries index ≡ others index)
 

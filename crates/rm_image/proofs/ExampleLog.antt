@@ -1,24 +1,21 @@
 -- A log of two batches, for the example of a whole image: an insert and its commit, and then a checkpoint.
-use Rattle.std.proofs.Common.{◌≡◌, inl, inr, ℕ, zero, suc, ◌+◌, ◌<◌, ◌≤◌, Bool, true, false, cond, eqb, List, [], ◌∷◌, get_or, refl, sym, ap, arith, lit<, lit≤}
+use Rattle.std.proofs.Common.{◌≡◌, inl, inr, ℕ, zero, suc, ◌<◌, ◌≤◌, Bool, true, false, cond, eqb, List, [], ◌∷◌, get_or, refl}
+use Rattle.std.proofs.Common.{arith, lit<, lit≤}
 use Rattle.std.proofs.Math.Dec.{eqb-zero-suc}
-use Rattle.std.specs.List.{AllByRecursion}
 use Rattle.rm_types.specs.declared.formats.Format.TheVariants.{One}
 use Rattle.rm_types.specs.declared.places.Place.{Place}
 use Rattle.rm_types.specs.declared.slots.Slot.TheVariants.{Vacant, Row}
 use Rattle.rm_types.specs.declared.slots.TheConstants.{CAPACITY}
 use Rattle.rm_model.specs.Pages.{used}
 use Rattle.rm_record.specs.declared.records.LogRecord.TheVariants.{Insert, Commit, Checkpoint}
-use Rattle.rm_record.specs.Records.{IsRecord}
 use Rattle.rm_history.specs.Logs.{Batch, IsBatch}
 use Rattle.rm_history.specs.Acts.{Act, Change, Listing, History, lists, changes, commits, marks}
-use Rattle.rm_history.specs.Contents.{page_of, entry_of, category_of}
+use Rattle.rm_history.specs.Contents.{page_of, category_of}
 use Rattle.rm_history.specs.Pending.{pending_of}
 use Rattle.rm_history.specs.Transactions.{HasRecord, IsFinished}
 use Rattle.rm_history.specs.Needs.{need_of, need_for, on_page, sum_below, Fits}
-use Rattle.rm_history.specs.Rules.{Follows}
-use Rattle.rm_history.specs.Legal.{IsKept, IsLegal}
+use Rattle.rm_history.specs.Legal.{IsLegal}
 use Rattle.rm_history.specs.Batched.{acts_of_batches}
-use Rattle.rm_image.specs.Starts.{Start}
 use Rattle.rm_image.specs.Whole.{IsLogSound}
 
 -- ---- its records
@@ -148,7 +145,8 @@ legal = (
       tt,
       record {
         above = lit< tt;
-        may_come = record { unfinished = λ is. is; held = refl; others = λ other differs has. absurd has; under_is = refl; need_is = refl };
+        may_come =
+            record { unfinished = λ is. is; held = refl; others = λ other differs has. absurd has; under_is = refl; need_is = refl };
         fits = insert_fits;
       },
       record { entered = tt; follow = λ page. inl (no_category page) },
@@ -158,7 +156,8 @@ legal = (
   ),
   record {
     above = lit< tt;
-    may_come = record { next_is = next_is; all = λ txn some has unfinished. absurd (unfinished (finished txn has)); only = λ loser is. absurd is };
+    may_come =
+        record { next_is = next_is; all = λ txn some has unfinished. absurd (unfinished (finished txn has)); only = λ loser is. absurd is };
     fits = commit_fits;
   },
   record { entered = tt; follow = λ page. inl (no_category page) },

@@ -1,5 +1,5 @@
 -- The definitions of redo, checkpoints and copies, on examples.
-use Rattle.std.proofs.Common.{◌≡◌, ℕ, List, [], ◌∷◌, inl, inr, refl, arith, lit<, lit≤}
+use Rattle.std.proofs.Common.{◌≡◌, ℕ, [], ◌∷◌, refl, arith, lit<, lit≤}
 use Rattle.rm_types.specs.declared.slots.Slot.TheVariants.{Row}
 use Rattle.rm_history.specs.Acts.{History, enters}
 use Rattle.rm_image.specs.Standing.{StandsFor}
@@ -17,7 +17,8 @@ gates lsn = 0
 
 -- a block of zeros lacks the insert, which its redo offset allows; after the batch it may lack no record
 lacks_it : StandsFor gates history 0 0 [] 0
-lacks_it = (λ le. absurd (omega (arith, le)), λ lt. (λ on. absurd on, (λ le. absurd (omega (arith, le)), λ more. (λ on. omega arith, (refl, refl)))))
+lacks_it =
+    (λ le. absurd (omega (arith, le)), λ lt. (λ on. absurd on, (λ le. absurd (omega (arith, le)), λ more. (λ on. omega arith, (refl, refl)))))
 
 may_not : StandsFor gates history 0 0 [] 34 → ⊥
 may_not stands = omega (arith, ((stands.1 (lit< tt)).1.1 (lit< tt)).0 refl)
@@ -28,7 +29,8 @@ has_it = (λ le. absurd (omega (arith, le)), λ lt. (λ on. absurd on, (λ le. (
 
 -- a page without records is of version 0
 other_page : StandsFor gates history 1 0 [] 34
-other_page = (λ le. absurd (omega (arith, le)), λ lt. (λ on. absurd on, (λ le. absurd (omega (arith, le)), λ more. (λ on. absurd (omega (arith, on)), (refl, refl)))))
+other_page =
+    (λ le. absurd (omega (arith, le)), λ lt. (λ on. absurd on, (λ le. absurd (omega (arith, le)), λ more. (λ on. absurd (omega (arith, on)), (refl, refl)))))
 
 -- no block has the commit's LSN
 not_of_commit : StandsFor gates history 0 29 (Row row ∷ []) 0 → ⊥

@@ -13,7 +13,6 @@ use Rattle.rm_history.specs.Legal.{IsLegal}
 use Rattle.rm_block.specs.Blocks.{block_at}
 use Rattle.rm_block.specs.Laws.{IsZeroBlock}
 use Rattle.rm_block.proofs.Zeros.{zeros_are_empty}
-use Rattle.rm_image.specs.Starts.{Start}
 use Rattle.rm_image.specs.Whole.{IsPageWhole, IsBlockWhole}
 use Rattle.rm_image.specs.ImageLaws.{FreshIsSound, FreshIsWhole}
 
@@ -30,7 +29,8 @@ fresh_is_sound Rules pages c rules fresh = record {
 }
 
 -- a block in the bytes that are zeros is one of zeros
-zero_block : (area : Bytes) (len number : ℕ) → IsZeroBelow area len → BLOCK_SIZE * (number + 1) ≤ len → IsZeroBlock area (block_at number)
+zero_block : (area : Bytes) (len number : ℕ) → IsZeroBelow area len → BLOCK_SIZE * (number + 1) ≤ len
+    → IsZeroBlock area (block_at number)
 zero_block area len number zero inside = record { each = λ at after below. zero.each at (omega (arith, inside)) }
 
 module _ (pages : ℕ) (c : Image) (fresh : IsFresh pages c) where
@@ -42,7 +42,8 @@ module _ (pages : ℕ) (c : Image) (fresh : IsFresh pages c) where
     record {
       version = 0;
       slots = [];
-      block = zeros_are_empty.page (c Data) (block_at page) (zero_block (c Data) _ page fresh.cleared.data_blocks (omega (arith, inside)));
+      block =
+          zeros_are_empty.page (c Data) (block_at page) (zero_block (c Data) _ page fresh.cleared.data_blocks (omega (arith, inside)));
       stands = (refl, refl);
     },
   )
@@ -54,7 +55,8 @@ module _ (pages : ℕ) (c : Image) (fresh : IsFresh pages c) where
     record {
       version = 0;
       entries = λ index. 0;
-      is_block = zeros_are_empty.entries (c Space) (block_at block) (zero_block (c Space) _ block fresh.cleared.space (omega (arith, inside)));
+      is_block =
+          zeros_are_empty.entries (c Space) (block_at block) (zero_block (c Space) _ block fresh.cleared.space (omega (arith, inside)));
       stands = (refl, λ index below. refl);
     },
   )

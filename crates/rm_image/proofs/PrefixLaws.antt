@@ -1,5 +1,6 @@
 -- A block stands for a history just where it has a prefix of it.
-use Rattle.std.proofs.Common.{◌≡◌, ℕ, ◌+◌, ◌*◌, ◌/◌, ◌≤◌, ◌<◌, ◌==◌, Bool, true, false, cond, List, [], ◌∷◌, refl, sym, ap, ◌∙◌, arith}
+use Rattle.std.proofs.Common.{◌≡◌, ℕ, ◌+◌, ◌*◌, ◌/◌, ◌≤◌, ◌<◌, ◌==◌, Bool, true, false, cond, List, [], ◌∷◌, refl, sym, ap, ◌∙◌}
+use Rattle.std.proofs.Common.{arith}
 use Rattle.std.proofs.lemmas.Bool.{eq-eqb, ne_eqb}
 use Rattle.rm_types.specs.declared.slots.Slot.{Slot}
 use Rattle.rm_types.specs.declared.numbers.TheConstants.{BLOCK_PAGES}
@@ -24,7 +25,8 @@ module _ (page : ℕ) where
   version_on (undoes u) before on = rw (eq-eqb u.rid.page page on) refl
   version_on other before on = absurd on
 
-  pub version_off : (act : Act) (before : History) → (IsOnPage page act → ⊥) → version_of (act ∷ before) page ≡ version_of before page
+  pub version_off : (act : Act) (before : History) → (IsOnPage page act → ⊥)
+      → version_of (act ∷ before) page ≡ version_of before page
   version_off (changes c) before off = rw (ne_eqb c.rid.page page off) refl
   version_off (undoes u) before off = rw (ne_eqb u.rid.page page off) refl
   version_off other before off = refl
@@ -37,8 +39,10 @@ module _ (page : ℕ) where
   -- the version is not above the newest record
   pub version_within : (history : History) → IsInOrder history → version_of history page ≤ newest_lsn history
   version_within [] ordered = omega arith
-  version_within (changes c ∷ before) ordered = cond-le (c.rid.page == page) c.lsn (version_of before page) c.lsn (omega arith) (omega (arith, version_within before ordered.0, ordered.1.above))
-  version_within (undoes u ∷ before) ordered = cond-le (u.rid.page == page) u.lsn (version_of before page) u.lsn (omega arith) (omega (arith, version_within before ordered.0, ordered.1.above))
+  version_within (changes c ∷ before) ordered =
+      cond-le (c.rid.page == page) c.lsn (version_of before page) c.lsn (omega arith) (omega (arith, version_within before ordered.0, ordered.1.above))
+  version_within (undoes u ∷ before) ordered =
+      cond-le (u.rid.page == page) u.lsn (version_of before page) u.lsn (omega arith) (omega (arith, version_within before ordered.0, ordered.1.above))
   version_within (other ∷ before) ordered = omega (arith, version_within before ordered.0, ordered.1.above)
 
   module _ (gates : ℕ → ℕ) (version : ℕ) (slots : List Slot) (redo : ℕ) where
@@ -68,7 +72,8 @@ module _ (block : ℕ) where
   block_version_on (enters e) before on = rw (eq-eqb (e.page / BLOCK_PAGES) block on) refl
   block_version_on other before on = absurd on
 
-  pub block_version_off : (act : Act) (before : History) → (IsInBlock block act → ⊥) → block_version_of (act ∷ before) block ≡ block_version_of before block
+  pub block_version_off : (act : Act) (before : History) → (IsInBlock block act → ⊥)
+      → block_version_of (act ∷ before) block ≡ block_version_of before block
   block_version_off (enters e) before off = rw (ne_eqb (e.page / BLOCK_PAGES) block off) refl
   block_version_off other before off = refl
 
@@ -83,7 +88,8 @@ module _ (block : ℕ) where
   pub block_version_within : (history : History) → IsInOrder history → block_version_of history block ≤ newest_lsn history
   block_version_within [] ordered = omega arith
   block_version_within (enters e ∷ before) ordered =
-      cond-le ((e.page / BLOCK_PAGES) == block) e.lsn (block_version_of before block) e.lsn (omega arith) (omega (arith, block_version_within before ordered.0, ordered.1.above))
+      cond-le ((e.page / BLOCK_PAGES) == block) e.lsn (block_version_of before block) e.lsn (omega arith)
+      (omega (arith, block_version_within before ordered.0, ordered.1.above))
   block_version_within (other ∷ before) ordered = omega (arith, block_version_within before ordered.0, ordered.1.above)
 
   module _ (gates : ℕ → ℕ) (version : ℕ) (entries : ℕ → ℕ) (redo : ℕ) where

@@ -19,7 +19,8 @@ module _ (Holds : History → Type 0) (IsOn : Act → Type 0) (gates : ℕ → �
 
   module _ (block : IsBlock) where
     -- where the newest record's gate is before the redo offset, the block holds the whole history
-    early_is_held : Rise gates → (history : History) (newest : ℕ) → IsInOrder history → newest_lsn history ≤ newest → gates newest < redo
+    early_is_held : Rise gates → (history : History) (newest : ℕ) → IsInOrder history → newest_lsn history ≤ newest
+        → gates newest < redo
         → Stands Holds IsOn gates version redo history → Holds history
     early_is_held rise [] newest ordered top early stands = stands
     early_is_held rise (act ∷ before) newest ordered top early stands = elim (cases_lt version (lsn_of act)) [
@@ -35,7 +36,8 @@ module _ (Holds : History → Type 0) (IsOn : Act → Type 0) (gates : ℕ → �
     whole history holds = record { newer = []; before = history; split = refl; holds = holds; lacks_none = tt }
 
     -- so is what is before a record that the block may lack
-    longer : (act : Act) (before : History) → redo ≤ gates (lsn_of act) → Prefix Holds gates redo before → Prefix Holds gates redo (act ∷ before)
+    longer : (act : Act) (before : History) → redo ≤ gates (lsn_of act) → Prefix Holds gates redo before
+        → Prefix Holds gates redo (act ∷ before)
     longer act before late prefix = record {
       newer = act ∷ prefix.newer;
       before = prefix.before;
@@ -45,7 +47,8 @@ module _ (Holds : History → Type 0) (IsOn : Act → Type 0) (gates : ℕ → �
     }
 
     -- record by record there is a prefix
-    prefix_of : Rise gates → (history : History) → IsInOrder history → Stands Holds IsOn gates version redo history → Prefix Holds gates redo history
+    prefix_of : Rise gates → (history : History) → IsInOrder history → Stands Holds IsOn gates version redo history
+        → Prefix Holds gates redo history
     prefix_of rise [] ordered stands = whole [] stands
     prefix_of rise (act ∷ before) ordered stands = elim (cases_lt version (lsn_of act)) [
       | inl above ↦ elim (cases_lt (gates (lsn_of act)) redo) [
@@ -66,12 +69,15 @@ module _ (Holds : History → Type 0) (IsOn : Act → Type 0) (gates : ℕ → �
     )
 
     -- its version is not above the newest record
-    version_within : (newer before : History) → IsInOrder (newer ++ before) → Holds before → version ≤ newest_lsn (newer ++ before)
+    version_within : (newer before : History) → IsInOrder (newer ++ before) → Holds before
+        → version ≤ newest_lsn (newer ++ before)
     version_within [] before ordered holds = block.within before ordered holds
-    version_within (act ∷ newer) before ordered holds = omega (arith, version_within newer before ordered.0 holds, ordered.1.above)
+    version_within (act ∷ newer) before ordered holds =
+        omega (arith, version_within newer before ordered.0 holds, ordered.1.above)
 
     -- with a prefix the block stands for the history
-    stands_for_prefix : (newer before : History) → IsInOrder (newer ++ before) → Holds before → AllByRecursion (λ act. redo ≤ gates (lsn_of act)) newer
+    stands_for_prefix : (newer before : History) → IsInOrder (newer ++ before) → Holds before
+        → AllByRecursion (λ act. redo ≤ gates (lsn_of act)) newer
         → Stands Holds IsOn gates version redo (newer ++ before)
     stands_for_prefix [] before ordered holds none = stands_whole before holds
     stands_for_prefix (act ∷ newer) before ordered holds none = (
@@ -80,10 +86,12 @@ module _ (Holds : History → Type 0) (IsOn : Act → Type 0) (gates : ℕ → �
     )
 
     -- both directions
-    pub prefixes : Rise gates → (history : History) → IsInOrder history → Stands Holds IsOn gates version redo history ↔ Prefix Holds gates redo history
+    pub prefixes : Rise gates → (history : History) → IsInOrder history
+        → Stands Holds IsOn gates version redo history ↔ Prefix Holds gates redo history
     prefixes rise history ordered = (
       prefix_of rise history ordered,
       λ prefix.
           let parts_ordered : IsInOrder (prefix.newer ++ prefix.before) = subst IsInOrder prefix.split ordered in
-          subst (Stands Holds IsOn gates version redo) (sym prefix.split) (stands_for_prefix prefix.newer prefix.before parts_ordered prefix.holds prefix.lacks_none),
+          subst (Stands Holds IsOn gates version redo) (sym prefix.split)
+          (stands_for_prefix prefix.newer prefix.before parts_ordered prefix.holds prefix.lacks_none),
     )

@@ -24,15 +24,18 @@ module _ (area : Bytes) (batches : List Batch) (ordered : IsInOrder (acts_of_bat
     version = has.version;
     slots = has.slots;
     block = has.block;
-    redone = redo_brings_pages_up (batch_of batches) (acts_of_batches batches) page has.version has.slots redo from ordered le has.stands;
+    redone =
+        redo_brings_pages_up (batch_of batches) (acts_of_batches batches) page has.version has.slots redo from ordered le has.stands;
   }
 
-  entries_are_redone : (format : Format) (block : ℕ) → HasEntries format area batches number block redo → AreRedone format area batches number block from
+  entries_are_redone : (format : Format) (block : ℕ) → HasEntries format area batches number block redo
+      → AreRedone format area batches number block from
   entries_are_redone format block has = record {
     version = has.version;
     entries = has.entries;
     is_block = has.is_block;
-    redone = redo_brings_entries_up (batch_of batches) (acts_of_batches batches) block has.version has.entries redo from ordered le has.stands;
+    redone =
+        redo_brings_entries_up (batch_of batches) (acts_of_batches batches) block has.version has.entries redo from ordered le has.stands;
   }
 
 -- a file that is being restored has a copy

@@ -1,5 +1,5 @@
 -- A sound image has one reading, and which images are sound whose master names no checkpoint and no copy.
-use Rattle.std.proofs.Common.{◌≡◌, ◌≢◌, inl, inr, None, ℕ, ◌<◌, ◌≤◌, List, refl, sym, ap, ◌∙◌, arith}
+use Rattle.std.proofs.Common.{◌≡◌, inl, inr, None, List, refl, sym, ap, ◌∙◌, arith}
 use Rattle.rm_types.specs.declared.areas.Area.TheVariants.{Master, Log}
 use Rattle.rm_types.specs.declared.formats.Format.{Format}
 use Rattle.rm_types.specs.declared.formats.Format.TheVariants.{One}
@@ -12,7 +12,7 @@ use Rattle.rm_history.specs.Logs.{Batch}
 use Rattle.rm_history.proofs.Readings.{log_once}
 use Rattle.rm_image.specs.Starts.{Start}
 use Rattle.rm_image.specs.Whole.{IsSoundBy}
-use Rattle.rm_image.specs.ImageLaws.{IsLogImage, LogImagesAreSound, SoundImagesAreOne, CopiesAreOfTheFile}
+use Rattle.rm_image.specs.ImageLaws.{LogImagesAreSound, SoundImagesAreOne, CopiesAreOfTheFile}
 
 -- a master is of one format
 one_format : (fields : Fields) (a b : Format) → IsOfFormat fields a → IsOfFormat fields b → a ≡ b
@@ -28,13 +28,15 @@ module _ (Rules : Format → History → Type 0) where
       size = image.size;
       has_log = image.has_log;
       log = image.log;
-      checkpoint = record { named = None; has = no_checkpoint; pages = λ place none. absurd none; blocks = λ place none. absurd none };
+      checkpoint =
+          record { named = None; has = no_checkpoint; pages = λ place none. absurd none; blocks = λ place none. absurd none };
       copy = inl no_copy;
     },
   )
 
   one_reading : (c : Image) (start other : Start) (fields others : Fields) (batches more : List Batch)
-      → IsSoundBy Rules c start fields batches → IsSoundBy Rules c other others more → (start ≡ other) × (fields ≡ others) × (batches ≡ more)
+      → IsSoundBy Rules c start fields batches → IsSoundBy Rules c other others more
+      → (start ≡ other) × (fields ≡ others) × (batches ≡ more)
   one_reading c start other fields others batches more sound again =
       let same : fields ≡ others = one_shown (c Master) _ fields others sound.master.rules again.master.rules sound.master.slot again.master.slot in
       let format : start.format ≡ other.format = one_format fields start.format other.format sound.version (rw same again.version) in

@@ -1,5 +1,6 @@
 -- A whole image with records, a checkpoint and a copy: a volume of one page, whose block lacks a committed insert.
-use Rattle.std.proofs.Common.{◌≡◌, inl, inr, false, ℕ, zero, suc, ◌+◌, ◌≤◌, ◌<◌, List, [], ◌∷◌, ◌++◌, length, replicate, get_or, Some, refl, ap, subst, arith, zero-add, lit<, lit≤}
+use Rattle.std.proofs.Common.{inl, inr, false, ℕ, zero, suc, ◌≤◌, ◌<◌, List, [], ◌∷◌, ◌++◌, replicate, get_or, Some, refl, ap}
+use Rattle.std.proofs.Common.{subst, arith, zero-add, lit<, lit≤}
 use Rattle.std.proofs.lemmas.List.{get_or-append-add, get_or_past}
 use Rattle.std.specs.Int.{w16, w64, to_be_bytes}
 use Rattle.rm_types.specs.declared.areas.Area.TheVariants as area
@@ -21,12 +22,13 @@ use Rattle.rm_block.proofs.Zeros.{zeros_are_empty}
 use Rattle.rm_image.specs.Standing.{StandsFor, EntriesStandFor, IsInBlock, HoldsEntries}
 use Rattle.rm_image.specs.Having.{HasPage, HasEntries}
 use Rattle.rm_image.specs.Starts.{Start}
-use Rattle.rm_image.specs.Checkpoints.{NamesListing, IsCheckpointSound, IsRedoOfPage, IsRedoPoint}
+use Rattle.rm_image.specs.Checkpoints.{NamesListing, IsCheckpointSound, IsRedoPoint}
 use Rattle.rm_image.specs.Copies.{copied_page, copied_block, IsCopyOfFile}
-use Rattle.rm_image.specs.Whole.{IsWholeWith, AreBlocksWhole, IsPageWhole, IsBlockWhole}
+use Rattle.rm_image.specs.Whole.{IsWholeWith, IsPageWhole, IsBlockWhole}
 use Rattle.rm_image.proofs.PrefixLemmas.{stands_whole}
 use Rattle.rm_image.proofs.PrefixLaws.{is_entries_block}
-use Rattle.rm_image.proofs.ExampleLog.{row, place, listing, first, second, batches, history, first_is_batch, second_is_batch, log_is_sound}
+use Rattle.rm_image.proofs.ExampleLog.{row, place, listing, first, second, batches, history, first_is_batch, second_is_batch}
+use Rattle.rm_image.proofs.ExampleLog.{log_is_sound}
 
 -- the master names the checkpoint at 39, in the batch at 34, and half 1, whose copy starts at 34 too
 abbrev fields : Fields
@@ -57,7 +59,8 @@ has_fields = record {
   made = refl;
   rules = record {
     file = record { known = refl; some_pages = lit≤ tt; few_pages = lit≤ tt };
-    checkpoint = record { batch_within = lit≤ tt; within = lit≤ tt; none = λ is. absurd (omega (arith, is)); behind_batch = λ some. lit≤ tt };
+    checkpoint =
+        record { batch_within = lit≤ tt; within = lit≤ tt; none = λ is. absurd (omega (arith, is)); behind_batch = λ some. lit≤ tt };
     copy = record {
       known = lit≤ tt;
       start_within = lit≤ tt;
@@ -91,14 +94,26 @@ has_log = record {
 page_stands : StandsFor (batch_of batches) history 0 0 [] 0
 page_stands = (
   λ le. absurd (omega (arith, le)),
-  λ lt. (λ on. absurd on, (λ le. absurd (omega (arith, le)), λ more. (λ on. absurd on, (λ le. absurd (omega (arith, le)), λ above. (λ on. lit≤ tt, (refl, refl)))))),
+  λ lt. (
+    λ on. absurd on,
+    (
+      λ le. absurd (omega (arith, le)),
+      λ more. (λ on. absurd on, (λ le. absurd (omega (arith, le)), λ above. (λ on. lit≤ tt, (refl, refl)))),
+    ),
+  ),
 )
 
 -- the copied block has it
 copied_stands : StandsFor (batch_of batches) history 0 5 (Row row ∷ []) 34
 copied_stands = (
   λ le. absurd (omega (arith, le)),
-  λ lt. (λ on. absurd on, (λ le. absurd (omega (arith, le)), λ more. (λ on. absurd on, (λ le. (refl, refl), λ above. absurd (omega (arith, above)))))),
+  λ lt. (
+    λ on. absurd on,
+    (
+      λ le. absurd (omega (arith, le)),
+      λ more. (λ on. absurd on, (λ le. (refl, refl), λ above. absurd (omega (arith, above)))),
+    ),
+  ),
 )
 
 -- and the inventory has no record
@@ -145,14 +160,16 @@ names_it : NamesListing fields batches listing
 names_it = record { is_there = inl refl; lsn_is = refl; batch_is = refl }
 
 lists_gates : (listed : Place) → IsIn (place ∷ []) listed → (listed.number < 1) × IsGate batches listed.at × (listed.at ≤ 34)
-lists_gates listed (inl same) = subst (λ (p : Place). (p.number < 1) × IsGate batches p.at × (p.at ≤ 34)) same (lit< tt, inr (inr refl), lit≤ tt)
+lists_gates listed (inl same) =
+    subst (λ (p : Place). (p.number < 1) × IsGate batches p.at × (p.at ≤ 34)) same (lit< tt, inr (inr refl), lit≤ tt)
 lists_gates listed (inr none) = absurd none
 
 checkpoint_is_sound : IsCheckpointSound start fields batches
 checkpoint_is_sound = record { named = Some listing; has = names_it; pages = lists_gates; blocks = λ listed none. absurd none }
 
 -- the only block of the inventory has no record
-only_block : (c : Bytes) (number block redo : ℕ) → IsZeroBlock c (block_at number) → block < 1 → HasEntries One c batches number block redo
+only_block : (c : Bytes) (number block redo : ℕ) → IsZeroBlock c (block_at number) → block < 1
+    → HasEntries One c batches number block redo
 only_block c number zero redo zeros below =
     record { version = 0; entries = λ index. 0; is_block = zeros_are_empty.entries c (block_at number) zeros; stands = entries_stand redo }
 only_block c number (suc block) redo zeros below = absurd (omega (arith, below))
@@ -190,7 +207,8 @@ page_is_whole zero below = (
 page_is_whole (suc page) below = absurd (omega (arith, below))
 
 block_is_whole : (block : ℕ) → block < 1 → IsBlockWhole image One fields batches block
-block_is_whole block below = (34, (Some listing, names_it, refl), only_block (image area.Space) block block 34 (record { each = λ at after inside. refl }) below)
+block_is_whole block below =
+    (34, (Some listing, names_it, refl), only_block (image area.Space) block block 34 (record { each = λ at after inside. refl }) below)
 
 whole : IsWholeWith image start fields batches
 whole = record {

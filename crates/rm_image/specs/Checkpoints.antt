@@ -55,8 +55,8 @@ pub record IsCheckpointSound (start : Start) (fields : Fields) (batches : List B
   pub named : Option Listing
   pub has : HasCheckpoint fields batches named
   pub pages : AreGates batches fields.batch (λ number. number < fields.pages) (listed_pages named)
-  pub blocks : AreGates batches fields.batch (IsSpacePlace (format_after start.format (before_checkpoint fields batches)) fields.pages)
-      (listed_blocks named)
+  pub blocks :
+      AreGates batches fields.batch (IsSpacePlace (format_after start.format (before_checkpoint fields batches)) fields.pages) (listed_blocks named)
 
 -- where a list of places has the number, its offset, and else the other one
 abbrev pub place_or : List Place → ℕ → ℕ → ℕ

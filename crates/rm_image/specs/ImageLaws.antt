@@ -27,14 +27,17 @@ use Rattle.rm_image.specs.Whole.{IsLogSound, IsSoundBy, IsSoundWith, IsWholeWith
 -- of a log in order the master names one checkpoint, or none
 abbrev pub CheckpointsAreOne : Type 0
 CheckpointsAreOne = (fields : Fields) (batches : List Batch) (named other : Option Listing)
-    → IsInOrder (acts_of_batches batches) → HasCheckpoint fields batches named → HasCheckpoint fields batches other → named ≡ other
+    → IsInOrder (acts_of_batches batches) → HasCheckpoint fields batches named → HasCheckpoint fields batches other
+    → named ≡ other
 
 -- no redo offset is before the redo point; while the file is being restored, nor is that of the copied blocks
 pub record RedoPointIsLeast : Type 0 where
   pub pages : (fields : Fields) (batches : List Batch) (point page redo : ℕ)
-      → IsInOrder (acts_of_batches batches) → fields.restoring ≡ false → IsRedoPoint fields batches point → IsRedoOfPage fields batches page redo → point ≤ redo
+      → IsInOrder (acts_of_batches batches) → fields.restoring ≡ false → IsRedoPoint fields batches point
+      → IsRedoOfPage fields batches page redo → point ≤ redo
   pub blocks : (fields : Fields) (batches : List Batch) (point place redo : ℕ)
-      → IsInOrder (acts_of_batches batches) → fields.restoring ≡ false → IsRedoPoint fields batches point → IsRedoOfBlock fields batches place redo → point ≤ redo
+      → IsInOrder (acts_of_batches batches) → fields.restoring ≡ false → IsRedoPoint fields batches point
+      → IsRedoOfBlock fields batches place redo → point ≤ redo
   pub copied : (fields : Fields) (batches : List Batch) (point : ℕ)
       → fields.restoring ≡ true → IsRedoPoint fields batches point → point ≤ fields.start
 
@@ -65,7 +68,7 @@ pub record IsCopyRedone (area : Bytes) (start : Start) (fields : Fields) (batche
   pub blocks : (block : ℕ) → block < blocks_of fields.copied
       → AreRedone (format_of start batches) area batches (copied_block fields.half block) block from
 
--- From the redo point on redo makes of each block what the log says: of the file, or of the copy while the file is being restored.
+-- From the redo point on redo makes of each block what the log says: of the file, or of the copy while it is being restored.
 pub record WholeImagesAreRedone : Type 0 where
   pub file : (c : Image) (start : Start) (fields : Fields) (batches : List Batch) (point : ℕ) → IsWholeWith c start fields batches
       → fields.restoring ≡ false → IsRedoPoint fields batches point → IsFileRedone c start batches point
@@ -111,7 +114,8 @@ module _ (Rules : Format → History → Type 0) where
 
   -- the copy that it names is of all pages of the file
   abbrev pub CopiesAreOfTheFile : Type 0
-  CopiesAreOfTheFile = (c : Image) (start : Start) (fields : Fields) (batches : List Batch) → IsSoundBy Rules c start fields batches
+  CopiesAreOfTheFile =
+      (c : Image) (start : Start) (fields : Fields) (batches : List Batch) → IsSoundBy Rules c start fields batches
       → fields.half ≢ 0 → fields.copied ≡ fields.pages
 
   -- a new volume is sound by rules that a history without records keeps

@@ -18,11 +18,13 @@ Rise gates = (a b : ℕ) → a ≤ b → gates a ≤ gates b
 -- The two ways of saying what a block lacks are one, where the gates of records rise with their LSNs.
 abbrev pub BlocksHavePrefixes : Type 0
 BlocksHavePrefixes = (gates : ℕ → ℕ) (history : History) (page version : ℕ) (slots : List Slot) (redo : ℕ)
-    → IsInOrder history → Rise gates → StandsFor gates history page version slots redo ↔ HasPrefix gates history page version slots redo
+    → IsInOrder history → Rise gates
+    → StandsFor gates history page version slots redo ↔ HasPrefix gates history page version slots redo
 
 abbrev pub InventoryBlocksHavePrefixes : Type 0
 InventoryBlocksHavePrefixes = (gates : ℕ → ℕ) (history : History) (block version : ℕ) (entries : ℕ → ℕ) (redo : ℕ)
-    → IsInOrder history → Rise gates → EntriesStandFor gates history block version entries redo ↔ HasEntriesOfPrefix gates history block version entries redo
+    → IsInOrder history → Rise gates
+    → EntriesStandFor gates history block version entries redo ↔ HasEntriesOfPrefix gates history block version entries redo
 
 -- as the gates of a log's batches do
 abbrev pub GatesRise : Type 0

@@ -22,13 +22,15 @@ IsInBlock block (commits f) = ⊥
 IsInBlock block (ends f) = ⊥
 IsInBlock block (marks m) = ⊥
 
--- a page's block with this version and these slots holds what the history says; so does a block of the inventory with these categories
+-- a page's block with this version and these slots holds what the history says; so does a block of the inventory with these
+-- categories
 abbrev pub HoldsPage : ℕ → ℕ → List Slot → History → Type 0
 HoldsPage page version slots history = (version ≡ version_of history page) × (slots ≡ page_of history page)
 
 abbrev pub HoldsEntries : ℕ → ℕ → (ℕ → ℕ) → History → Type 0
 HoldsEntries block version entries history =
-    (version ≡ block_version_of history block) × ((index : ℕ) → index < BLOCK_PAGES → entries index ≡ entry_of history (BLOCK_PAGES * block + index))
+    (version ≡ block_version_of history block)
+    × ((index : ℕ) → index < BLOCK_PAGES → entries index ≡ entry_of history (BLOCK_PAGES * block + index))
 
 -- A block with this version holds what a history says of it up to the version, and lacks no record on it from before its redo
 -- offset. The gates are those of the records' batches.
@@ -43,4 +45,5 @@ abbrev pub StandsFor : (ℕ → ℕ) → History → ℕ → ℕ → List Slot �
 StandsFor gates history page version slots redo = Stands (HoldsPage page version slots) (IsOnPage page) gates version redo history
 
 abbrev pub EntriesStandFor : (ℕ → ℕ) → History → ℕ → ℕ → (ℕ → ℕ) → ℕ → Type 0
-EntriesStandFor gates history block version entries redo = Stands (HoldsEntries block version entries) (IsInBlock block) gates version redo history
+EntriesStandFor gates history block version entries redo =
+    Stands (HoldsEntries block version entries) (IsInBlock block) gates version redo history
