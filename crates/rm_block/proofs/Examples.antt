@@ -1,8 +1,9 @@
 -- The definitions of blocks, on examples.
-use Rattle.std.proofs.Common.{◌≡◌, ℕ, List, [], ◌∷◌, inl, inr, refl, arith, lit≤}
+use Rattle.std.proofs.Common.{◌≡◌, ℕ, ◌==◌, if◌then◌else◌, lit<, List, [], ◌∷◌, inl, inr, refl, arith, lit≤}
+use Rattle.rm_types.specs.declared.formats.Format.{Format}
 use Rattle.rm_types.specs.declared.formats.Format.TheVariants.{One}
-use Rattle.rm_types.specs.declared.slots.Slot.TheVariants.{Row}
-use Rattle.rm_block.specs.Blocks.{entry_in, IsRowAt, AreApart, IsSpacePlace}
+use Rattle.rm_types.specs.declared.slots.Slot.TheVariants.{Vacant, Row}
+use Rattle.rm_block.specs.Blocks.{entry_in, IsRowAt, AreApart, IsDataBlock, IsInventoryBlock, IsSpacePlace}
 
 abbrev row : List ℕ
 row = 97 ∷ []
@@ -31,6 +32,21 @@ overlapping (inl none) = omega (arith, none)
 overlapping (inr (inl none)) = omega (arith, none)
 overlapping (inr (inr (inl le))) = omega (arith, le)
 overlapping (inr (inr (inr le))) = omega (arith, le)
+
+-- nor the other way round
+overlapping_second : AreApart 101 (Row row) 100 (Row (97 ∷ 97 ∷ [])) → ⊥
+overlapping_second (inl none) = omega (arith, none)
+overlapping_second (inr (inl none)) = omega (arith, none)
+overlapping_second (inr (inr (inl le))) = omega (arith, le)
+overlapping_second (inr (inr (inr le))) = omega (arith, le)
+
+-- a slot without a row has no length: a block with a length of 1 there stands for no page with a vacant slot
+has_length : (lsn : ℕ) → IsDataBlock (λ k. if k == 19 then 1 else 0) 0 lsn (Vacant ∷ []) → ⊥
+has_length lsn is = omega (arith, (is.each 0 (lit< tt)).2.each 1 (lit< tt))
+
+-- a block of ones is of no format
+of_no_format : (format : Format) (lsn : ℕ) (entries : ℕ → ℕ) → IsInventoryBlock format (λ k. 1) 0 lsn entries → ⊥
+of_no_format One lsn entries is = omega (arith, is.form)
 
 -- the four entries of a byte, the first in its lowest bits
 four_entries : (entry_in One 228 0 ≡ 0) × (entry_in One 228 1 ≡ 1) × (entry_in One 228 2 ≡ 2) × (entry_in One 228 3 ≡ 3)

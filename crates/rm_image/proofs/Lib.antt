@@ -6,6 +6,8 @@ pub mod CheckpointLaws
 pub mod SoundLaws
 pub mod FreshLaws
 pub mod RedoneLaws
+pub mod GateLaws
+pub mod PastLaws
 mod ExampleLog
 mod Examples
 mod WholeExamples

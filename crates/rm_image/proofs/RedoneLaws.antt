@@ -1,22 +1,24 @@
 -- From the redo point on redo makes of each block of a whole image what the log says.
-use Rattle.std.proofs.Common.{◌≡◌, inl, inr, ℕ, ◌≤◌, List, true, false}
+use Rattle.std.proofs.Common.{◌≡◌, ℕ, ◌≤◌, List, true, false}
 use Rattle.rm_types.specs.declared.areas.Area.TheVariants.{Data, Space, Copy}
 use Rattle.rm_types.specs.declared.formats.Format.{Format}
 use Rattle.rm_outside.specs.Images.{Bytes, Image}
 use Rattle.rm_master.specs.declared.fields.Fields.{Fields}
 use Rattle.rm_history.specs.Logs.{Batch}
 use Rattle.rm_history.specs.Rules.{IsInOrder}
+use Rattle.rm_history.specs.Legal.{IsLegal}
 use Rattle.rm_history.specs.Batched.{acts_of_batches, batch_of}
 use Rattle.rm_history.proofs.Prefixes.{legal_is_in_order}
 use Rattle.rm_block.specs.Blocks.{space_place}
 use Rattle.rm_image.specs.Starts.{Start, format_of}
 use Rattle.rm_image.specs.Having.{HasPage, HasEntries}
-use Rattle.rm_image.specs.Copies.{copied_page, copied_block, IsCopyOfFile}
+use Rattle.rm_image.specs.Copies.{copied_page, copied_block}
 use Rattle.rm_image.specs.Checkpoints.{IsRedoPoint}
 use Rattle.rm_image.specs.Whole.{IsSoundWith, IsWholeWith}
 use Rattle.rm_image.specs.ImageLaws.{IsRedone, AreRedone, IsFileRedone, IsCopyRedone, WholeImagesAreRedone}
 use Rattle.rm_image.proofs.RedoLaws.{redo_brings_pages_up, redo_brings_entries_up}
 use Rattle.rm_image.proofs.CheckpointLaws.{redo_point_is_least}
+use Rattle.rm_image.proofs.SoundLaws.{has_copy}
 
 module _ (area : Bytes) (batches : List Batch) (ordered : IsInOrder (acts_of_batches batches)) (number redo from : ℕ) (le : from ≤ redo) where
   page_is_redone : (page : ℕ) → HasPage area batches number page redo → IsRedone area batches number page from
@@ -37,14 +39,6 @@ module _ (area : Bytes) (batches : List Batch) (ordered : IsInOrder (acts_of_bat
     redone =
         redo_brings_entries_up (batch_of batches) (acts_of_batches batches) block has.version has.entries redo from ordered le has.stands;
   }
-
--- a file that is being restored has a copy
-has_copy : (c : Image) (start : Start) (fields : Fields) (batches : List Batch) → IsSoundWith c start fields batches
-    → fields.restoring ≡ true → IsCopyOfFile (c Copy) start fields batches
-has_copy c start fields batches sound restoring = elim sound.copy [
-  | inl none ↦ let not : fields.restoring ≡ false = sound.master.rules.copy.not_restoring none in cc
-  | inr copy ↦ copy
-]
 
 module _ (c : Image) (start : Start) (fields : Fields) (batches : List Batch) (point : ℕ) where
   abbrev format : Format
@@ -73,7 +67,7 @@ module _ (c : Image) (start : Start) (fields : Fields) (batches : List Batch) (p
       → IsCopyRedone (c Copy) start fields batches point
   copy_is_redone sound restoring is_point =
       let ordered : IsInOrder (acts_of_batches batches) = in_order sound in
-      let copied = has_copy c start fields batches sound restoring in
+      let copied = has_copy IsLegal c start fields batches sound restoring in
       let le : point ≤ fields.start = redo_point_is_least.copied fields batches point restoring is_point in
       record {
         pages = λ page inside.

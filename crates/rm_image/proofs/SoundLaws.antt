@@ -1,6 +1,6 @@
 -- A sound image has one reading, and which images are sound whose master names no checkpoint and no copy.
-use Rattle.std.proofs.Common.{◌≡◌, inl, inr, None, List, refl, sym, ap, ◌∙◌, arith}
-use Rattle.rm_types.specs.declared.areas.Area.TheVariants.{Master, Log}
+use Rattle.std.proofs.Common.{◌≡◌, inl, inr, true, false, None, List, refl, sym, ap, ◌∙◌, arith}
+use Rattle.rm_types.specs.declared.areas.Area.TheVariants.{Master, Log, Copy}
 use Rattle.rm_types.specs.declared.formats.Format.{Format}
 use Rattle.rm_types.specs.declared.formats.Format.TheVariants.{One}
 use Rattle.rm_outside.specs.Images.{Image}
@@ -11,6 +11,7 @@ use Rattle.rm_history.specs.Acts.{History}
 use Rattle.rm_history.specs.Logs.{Batch}
 use Rattle.rm_history.proofs.Readings.{log_once}
 use Rattle.rm_image.specs.Starts.{Start}
+use Rattle.rm_image.specs.Copies.{IsCopyOfFile}
 use Rattle.rm_image.specs.Whole.{IsSoundBy}
 use Rattle.rm_image.specs.ImageLaws.{LogImagesAreSound, SoundImagesAreOne, CopiesAreOfTheFile}
 
@@ -50,4 +51,12 @@ module _ (Rules : Format → History → Type 0) where
   copies_are_of_the_file c start fields batches sound named = elim sound.copy [
     | inl none ↦ absurd (named none)
     | inr of_file ↦ omega (arith, of_file.covers, sound.size, sound.master.rules.copy.copied_within)
+  ]
+
+  -- a file that is being restored has a copy
+  pub has_copy : (c : Image) (start : Start) (fields : Fields) (batches : List Batch) → IsSoundBy Rules c start fields batches
+      → fields.restoring ≡ true → IsCopyOfFile (c Copy) start fields batches
+  has_copy c start fields batches sound restoring = elim sound.copy [
+    | inl none ↦ let not : fields.restoring ≡ false = sound.master.rules.copy.not_restoring none in cc
+    | inr copy ↦ copy
   ]

@@ -1,6 +1,7 @@
 -- A whole image with records, a checkpoint and a copy: a volume of one page, whose block lacks a committed insert.
-use Rattle.std.proofs.Common.{inl, inr, false, ℕ, zero, suc, ◌≤◌, ◌<◌, List, [], ◌∷◌, ◌++◌, replicate, get_or, Some, refl, ap}
-use Rattle.std.proofs.Common.{subst, arith, zero-add, lit<, lit≤}
+use Rattle.std.proofs.Common.{◌≡◌, inl, inr, false, if◌then◌else◌, nat_lt, ℕ, ◌+◌, ◌-◌, zero, suc, ◌≤◌, ◌<◌, List, [], ◌∷◌, ◌++◌, replicate, get_or, Some, refl, ap}
+use Rattle.std.proofs.Common.{subst, arith, lit<, lit≤}
+use Rattle.std.proofs.lemmas.Bool.{le-ltb}
 use Rattle.std.proofs.lemmas.List.{get_or-append-add, get_or_past}
 use Rattle.std.specs.Int.{w16, w64, to_be_bytes}
 use Rattle.rm_types.specs.declared.areas.Area.TheVariants as area
@@ -19,6 +20,7 @@ use Rattle.rm_history.specs.Rules.{IsIn}
 use Rattle.rm_block.specs.Blocks.{block_at, IsDataBlock, HasSlot}
 use Rattle.rm_block.specs.Laws.{IsZeroBlock}
 use Rattle.rm_block.proofs.Zeros.{zeros_are_empty}
+use Rattle.rm_image.specs.declared.TheConstants.{HALF_BLOCKS}
 use Rattle.rm_image.specs.Standing.{StandsFor, EntriesStandFor, IsInBlock, HoldsEntries}
 use Rattle.rm_image.specs.Having.{HasPage, HasEntries}
 use Rattle.rm_image.specs.Starts.{Start}
@@ -30,9 +32,9 @@ use Rattle.rm_image.proofs.PrefixLaws.{is_entries_block}
 use Rattle.rm_image.proofs.ExampleLog.{row, place, listing, first, second, batches, history, first_is_batch, second_is_batch}
 use Rattle.rm_image.proofs.ExampleLog.{log_is_sound}
 
--- the master names the checkpoint at 39, in the batch at 34, and half 1, whose copy starts at 34 too
+-- the master names the checkpoint at 39, in the batch at 34, and half 2, whose copy starts at 34 too
 abbrev fields : Fields
-fields = record { version = 1; pages = 1; batch = 34; checkpoint = 39; half = 1; restoring = false; start = 34; copied = 1 }
+fields = record { version = 1; pages = 1; batch = 34; checkpoint = 39; half = 2; restoring = false; start = 34; copied = 1 }
 
 abbrev start : Start
 start = record { format = One; pages = 1 }
@@ -47,12 +49,16 @@ log = body_of first ++ (1 ∷ []) ++ body_of second
 abbrev copied : List ℕ
 copied = to_be_bytes w64 5 ++ (to_be_bytes w16 1 ++ (replicate 6 0 ++ (to_be_bytes w16 20 ++ (to_be_bytes w16 1 ++ row))))
 
+-- half 1 of area Copy has other bytes
+abbrev half_at : ℕ
+half_at = block_at HALF_BLOCKS
+
 abbrev image : Image
 image area.Master = λ k. get_or (head ++ slot_bytes fields) k 0
 image area.Log = λ k. get_or ((1 ∷ []) ++ log) k 0
 image area.Data = λ k. 0
 image area.Space = λ k. 0
-image area.Copy = λ k. get_or copied k 0
+image area.Copy = λ k. if nat_lt k half_at then 9 else get_or copied (k - half_at) 0
 
 has_fields : HasFields (image area.Master) fields
 has_fields = record {
@@ -121,20 +127,24 @@ entries_stand : (redo : ℕ) → EntriesStandFor (batch_of batches) history 0 0 
 entries_stand redo = stands_whole (HoldsEntries 0 0 (λ index. 0)) (IsInBlock 0) (batch_of batches) 0 redo
     (is_entries_block 0 (batch_of batches) 0 (λ index. 0) redo) history (refl, λ index below. refl)
 
-shows_copied : Shows (image area.Copy) 0 copied
-shows_copied = record { each = λ k below. ap (λ n. get_or copied n 0) (zero-add k) }
+shows_copied : Shows (image area.Copy) half_at copied
+shows_copied = record {
+  each = λ k below.
+      let there : half_at + k - half_at ≡ k = omega arith in
+      rw (le-ltb (half_at + k) half_at (omega arith)) (ap (λ (n : ℕ). get_or copied n 0) there);
+}
 
 -- its bytes, field by field
-after_lsn : Shows (image area.Copy) 8 (to_be_bytes w16 1 ++ (replicate 6 0 ++ (to_be_bytes w16 20 ++ (to_be_bytes w16 1 ++ row))))
+after_lsn : Shows (image area.Copy) (half_at + 8) (to_be_bytes w16 1 ++ (replicate 6 0 ++ (to_be_bytes w16 20 ++ (to_be_bytes w16 1 ++ row))))
 after_lsn = shows_back (to_be_bytes w64 5) _ shows_copied
 
-entry : Shows (image area.Copy) 16 (to_be_bytes w16 20 ++ (to_be_bytes w16 1 ++ row))
+entry : Shows (image area.Copy) (half_at + 16) (to_be_bytes w16 20 ++ (to_be_bytes w16 1 ++ row))
 entry = shows_back (replicate 6 0) _ (shows_back (to_be_bytes w16 1) _ after_lsn)
 
-entry_length : Shows (image area.Copy) 18 (to_be_bytes w16 1 ++ row)
+entry_length : Shows (image area.Copy) (half_at + 18) (to_be_bytes w16 1 ++ row)
 entry_length = shows_back (to_be_bytes w16 20) _ entry
 
-copied_slot : (number : ℕ) → number < 1 → HasSlot (image area.Copy) 0 1 number (slot_at (Row row ∷ []) number) 20
+copied_slot : (number : ℕ) → number < 1 → HasSlot (image area.Copy) half_at 1 number (slot_at (Row row ∷ []) number) 20
 copied_slot zero below = (
   λ is. omega (arith, is),
   record { after = lit≤ tt; short = lit≤ tt; inside = lit≤ tt },
@@ -144,7 +154,7 @@ copied_slot zero below = (
 )
 copied_slot (suc number) below = absurd (omega (arith, below))
 
-copied_block_is : IsDataBlock (image area.Copy) 0 5 (Row row ∷ [])
+copied_block_is : IsDataBlock (image area.Copy) half_at 5 (Row row ∷ [])
 copied_block_is = record {
   version = shows_front (to_be_bytes w64 5) _ shows_copied;
   count = shows_front (to_be_bytes w16 1) _ after_lsn;
@@ -174,15 +184,17 @@ only_block c number zero redo zeros below =
     record { version = 0; entries = λ index. 0; is_block = zeros_are_empty.entries c (block_at number) zeros; stands = entries_stand redo }
 only_block c number (suc block) redo zeros below = absurd (omega (arith, below))
 
-copied_page_is : (page : ℕ) → page < 1 → HasPage (image area.Copy) batches (copied_page 1 page) page 34
+copied_page_is : (page : ℕ) → page < 1 → HasPage (image area.Copy) batches (copied_page 2 page) page 34
 copied_page_is zero below = record { version = 5; slots = Row row ∷ []; block = copied_block_is; stands = copied_stands }
 copied_page_is (suc page) below = absurd (omega (arith, below))
 
-zeros_after : IsZeroBlock (image area.Copy) (block_at (copied_block 1 0))
-zeros_after = record { each = λ at after below. get_or_past copied at 0 (omega (arith, after)) }
+zeros_after : IsZeroBlock (image area.Copy) (block_at (copied_block 2 0))
+zeros_after = record {
+  each = λ at after below. rw (le-ltb at half_at (omega (arith, after))) (get_or_past copied (at - half_at) 0 (omega (arith, after)));
+}
 
-copied_entries : (block : ℕ) → block < 1 → HasEntries One (image area.Copy) batches (copied_block 1 block) block 34
-copied_entries zero below = only_block (image area.Copy) (copied_block 1 0) 0 34 zeros_after below
+copied_entries : (block : ℕ) → block < 1 → HasEntries One (image area.Copy) batches (copied_block 2 block) block 34
+copied_entries zero below = only_block (image area.Copy) (copied_block 2 0) 0 34 zeros_after below
 copied_entries (suc block) below = absurd (omega (arith, below))
 
 copy_is_sound : IsCopyOfFile (image area.Copy) start fields batches

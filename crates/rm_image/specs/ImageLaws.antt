@@ -14,13 +14,14 @@ use Rattle.rm_master.specs.Slots.{HasFields}
 use Rattle.rm_history.specs.Logs.{Batch, HasLog}
 use Rattle.rm_history.specs.Acts.{Act, Listing, History, changes, undoes, enters, commits, ends, marks}
 use Rattle.rm_history.specs.Contents.{page_of, version_of}
-use Rattle.rm_history.specs.Batched.{acts_of_batches, batch_of}
+use Rattle.rm_history.specs.Batched.{acts_of_batches, batch_of, IsGate, AreBelow}
 use Rattle.rm_history.specs.Rules.{IsInOrder}
 use Rattle.rm_block.specs.Blocks.{block_at, IsDataBlock, IsInventoryBlock, space_place}
 use Rattle.rm_image.specs.Starts.{Start, format_of, size_of}
 use Rattle.rm_image.specs.Checkpoints.{HasCheckpoint, IsRedoOfPage, IsRedoOfBlock, IsRedoPoint}
-use Rattle.rm_image.specs.Copies.{copied_page, copied_block}
+use Rattle.rm_image.specs.Copies.{copied_page, copied_block, IsCopy}
 use Rattle.rm_image.specs.Redo.{page_redone, entries_redone}
+use Rattle.rm_image.specs.Standing.{StandsFor, HoldsPage}
 use Rattle.rm_image.specs.Laws.{IsUp}
 use Rattle.rm_image.specs.Whole.{IsLogSound, IsSoundBy, IsSoundWith, IsWholeWith, IsWhole}
 
@@ -75,6 +76,17 @@ pub record WholeImagesAreRedone : Type 0 where
   pub copy : (c : Image) (start : Start) (fields : Fields) (batches : List Batch) (point : ℕ) → IsSoundWith c start fields batches
       → fields.restoring ≡ true → IsRedoPoint fields batches point → IsCopyRedone (c Copy) start fields batches point
 
+-- An empty block stands for a page that a copy lacks: no record on it is of a batch from before the copy's start.
+abbrev pub PagesPastTheCopyAreEmpty : Type 0
+PagesPastTheCopyAreEmpty = (area : Bytes) (format : Format) (batches : List Batch) (half start n page : ℕ)
+    → IsInOrder (acts_of_batches batches) → IsCopy area format batches half start n → n ≤ page
+    → StandsFor (batch_of batches) (acts_of_batches batches) page 0 [] start
+
+-- so is each page that the file lacks
+abbrev pub PagesPastTheFileAreEmpty : Type 0
+PagesPastTheFileAreEmpty = (start : Start) (batches : List Batch) (page : ℕ) → AreBelow start.pages (acts_of_batches batches)
+    → size_of start batches ≤ page → HoldsPage page 0 [] (acts_of_batches batches)
+
 -- the record is of a transaction
 abbrev pub IsOfTxn : Act → Type 0
 IsOfTxn (changes c) = Unit {0}
@@ -103,6 +115,18 @@ module _ (Rules : Format → History → Type 0) where
   abbrev pub LogImagesAreSound : Type 0
   LogImagesAreSound = (c : Image) (start : Start) (fields : Fields) (batches : List Batch)
       → fields.checkpoint ≡ 0 → fields.half ≡ 0 → IsSoundBy Rules c start fields batches ↔ IsLogImage c start fields batches
+
+  -- Redo of a sound image begins at a gate; so does that of each block, and not after the checkpoint's batch.
+  pub record RedoBeginsAtGates : Type 0 where
+    pub point : (c : Image) (start : Start) (fields : Fields) (batches : List Batch) (point : ℕ)
+        → IsSoundBy Rules c start fields batches → IsInOrder (acts_of_batches batches) → IsRedoPoint fields batches point
+        → IsGate batches point
+    pub page : (c : Image) (start : Start) (fields : Fields) (batches : List Batch) (page redo : ℕ)
+        → IsSoundBy Rules c start fields batches → IsInOrder (acts_of_batches batches) → IsRedoOfPage fields batches page redo
+        → IsGate batches redo × (redo ≤ fields.batch)
+    pub block : (c : Image) (start : Start) (fields : Fields) (batches : List Batch) (place redo : ℕ)
+        → IsSoundBy Rules c start fields batches → IsInOrder (acts_of_batches batches) → IsRedoOfBlock fields batches place redo
+        → IsGate batches redo × (redo ≤ fields.batch)
 
   -- An image is sound with one start, one master and one log. The start is what the master says, where no record changes it.
   pub record SoundImagesAreOne : Type 0 where

@@ -2,7 +2,7 @@
 
 ghost use Rattle.rm_types.specs.declared.formats.Format.{Format};
 ghost use Rattle.rm_history.specs.Acts.{History};
-ghost use Rattle.rm_image.specs.ImageLaws.{CheckpointsAreOne, RedoPointIsLeast, WholeImagesAreRedone, CheckpointsAreRecords, LogImagesAreSound, SoundImagesAreOne, CopiesAreOfTheFile, FreshIsSound, FreshIsWhole};
+ghost use Rattle.rm_image.specs.ImageLaws.{CheckpointsAreOne, RedoPointIsLeast, WholeImagesAreRedone, CheckpointsAreRecords, PagesPastTheCopyAreEmpty, PagesPastTheFileAreEmpty, LogImagesAreSound, RedoBeginsAtGates, SoundImagesAreOne, CopiesAreOfTheFile, FreshIsSound, FreshIsWhole};
 
 /// What is asked of the history of a sound log.
 pub trait HistoryRules {
@@ -19,6 +19,22 @@ pub fn a_master_names_one_checkpoint()
 /// copy's start is not.
 pub fn no_redo_offset_is_before_the_redo_point()
     ensures { RedoPointIsLeast }
+{}
+
+/// The redo point of a sound image is a gate. In order, each redo offset is one too, and is not after the
+/// checkpoint's batch.
+pub fn redo_begins_at_gates<R: HistoryRules>()
+    ensures { RedoBeginsAtGates R.rules }
+{}
+
+/// An empty block stands for each page that a copy lacks.
+pub fn pages_past_the_copy_are_empty()
+    ensures { PagesPastTheCopyAreEmpty }
+{}
+
+/// No record of a sound log is on a page that the file lacks: it is empty.
+pub fn pages_past_the_file_are_empty()
+    ensures { PagesPastTheFileAreEmpty }
 {}
 
 /// From the redo point on redo makes of each block of a whole image what the log says; while the file is being

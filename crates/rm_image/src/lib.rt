@@ -13,7 +13,8 @@ pub use image_laws::{
     HistoryRules, a_copy_is_of_the_whole_file, a_master_names_one_checkpoint,
     a_new_volume_is_sound, a_new_volume_is_whole, a_sound_image_has_one_reading,
     an_image_of_a_log_alone_is_sound, no_checkpoint_without_its_record,
-    no_redo_offset_is_before_the_redo_point, redo_completes_whole_images,
+    no_redo_offset_is_before_the_redo_point, pages_past_the_copy_are_empty,
+    pages_past_the_file_are_empty, redo_begins_at_gates, redo_completes_whole_images,
 };
 
 /// How many blocks of area Copy a half has.
