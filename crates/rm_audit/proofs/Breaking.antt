@@ -1,14 +1,14 @@
 -- A legal history breaks no condition, and a first broken condition is found by parts.
 use Rattle.std.proofs.Common.{◌≡◌, ℕ, List, [], ◌∷◌, ◌++◌, refl, ap, ◌∙◌, inl, inr}
 use Rattle.rm_types.specs.declared.formats.Format.{Format}
-use Rattle.rm_history.specs.Acts.{Act, Change, Undo, Entry, Listing, History, changes, undoes, enters, commits, ends, marks}
+use Rattle.rm_history.specs.Acts.{Act, Mark, Change, Undo, Entry, Listing, History, lists, changes, undoes, enters, commits, ends, marks}
 use Rattle.rm_history.specs.Pending.{pending_of, last_of}
-use Rattle.rm_history.specs.Rules.{IsLast, MayList, MayCome}
+use Rattle.rm_history.specs.Rules.{IsLast, MayList, MayMark, MayCome}
 use Rattle.rm_history.specs.Legal.{category_with, IsEntry, IsEntered, IsLegal}
 use Rattle.rm_audit.specs.declared.verdicts.Illegal.{Illegal}
 use Rattle.rm_audit.specs.declared.verdicts.Illegal.TheVariants as why
 use Rattle.rm_audit.specs.Breaks.{UndoBreaks, ListingBreaks, Breaks}
-use Rattle.rm_audit.specs.Verdicts.{coming_of, entering_of, conditions_of, IsFirstBroken}
+use Rattle.rm_audit.specs.Verdicts.{marking_of, coming_of, entering_of, conditions_of, IsFirstBroken}
 
 -- the record breaks none of these conditions
 abbrev pub BreaksNone : Format → List Illegal → History → Act → Type 0
@@ -18,27 +18,31 @@ BreaksNone format (x ∷ xs) before act = (Breaks format x before act → ⊥) �
 -- ---- lists of conditions
 
 -- where none of two parts is broken, none of both is
-none_append : (format : Format) (xs ys : List Illegal) (before : History) (act : Act) → BreaksNone format xs before act → BreaksNone format ys before act → BreaksNone format (xs ++ ys) before act
+none_append : (format : Format) (xs ys : List Illegal) (before : History) (act : Act) → BreaksNone format xs before act
+    → BreaksNone format ys before act → BreaksNone format (xs ++ ys) before act
 none_append format [] ys before act none also = also
 none_append format (x ∷ xs) ys before act none also = (none.0, none_append format xs ys before act none.1 also)
 
 -- where none is broken, none is broken first
-none_first : (format : Format) (xs : List Illegal) (before : History) (act : Act) (broken : Illegal) → BreaksNone format xs before act → IsFirstBroken format xs before act broken → ⊥
+none_first : (format : Format) (xs : List Illegal) (before : History) (act : Act) (broken : Illegal) → BreaksNone format xs before act
+    → IsFirstBroken format xs before act broken → ⊥
 none_first format [] before act broken none first = first
 none_first format (x ∷ xs) before act broken none first =
     elim first [ inl here ↦ none.0 here.1 | inr later ↦ none_first format xs before act broken none.1 later.1 ]
 
--- the first of a front that is broken is the first of all
-pub first_append : (format : Format) (xs ys : List Illegal) (before : History) (act : Act) (broken : Illegal) → IsFirstBroken format xs before act broken → IsFirstBroken format (xs ++ ys) before act broken
+-- the first of a prefix that is broken is the first of all
+pub first_append : (format : Format) (xs ys : List Illegal) (before : History) (act : Act) (broken : Illegal)
+    → IsFirstBroken format xs before act broken → IsFirstBroken format (xs ++ ys) before act broken
 first_append format [] ys before act broken first = absurd first
 first_append format (x ∷ xs) ys before act broken first =
     elim first [ inl here ↦ inl here | inr later ↦ inr (later.0, first_append format xs ys before act broken later.1) ]
 
--- where none of a front is broken, the first of the rest is the first of all
-pub first_behind : (format : Format) (xs ys : List Illegal) (before : History) (act : Act) (broken : Illegal) → BreaksNone format xs before act → IsFirstBroken format ys before act broken
+-- where none of a prefix is broken, the first of the rest is the first of all
+pub first_after : (format : Format) (xs ys : List Illegal) (before : History) (act : Act) (broken : Illegal)
+    → BreaksNone format xs before act → IsFirstBroken format ys before act broken
     → IsFirstBroken format (xs ++ ys) before act broken
-first_behind format [] ys before act broken none first = first
-first_behind format (x ∷ xs) ys before act broken none first = inr (none.0, first_behind format xs ys before act broken none.1 first)
+first_after format [] ys before act broken none first = first
+first_after format (x ∷ xs) ys before act broken none first = inr (none.0, first_after format xs ys before act broken none.1 first)
 
 -- ---- what is met is not broken
 
@@ -84,8 +88,14 @@ category_met : (format : Format) (before : History) (e : Entry) → IsEntry form
 category_met format before e is breaks =
     elim is.right [
       | inl now ↦ breaks.0 now
-      | inr undone ↦ breaks.1.2 (undone.2 ∙ ap (λ (x : Change). category_with format before x.rid x.before) (last_is before e.txn breaks.1.0 undone.0 breaks.1.1 undone.1))
+      | inr undone ↦ breaks.1.2
+          (undone.2 ∙ ap (λ (x : Change). category_with format before x.rid x.before) (last_is before e.txn breaks.1.0 undone.0 breaks.1.1 undone.1))
     ]
+
+-- a record of no transaction that may come breaks none of what may come
+mark_breaks_none : (format : Format) (m : Mark) (before : History) → MayMark before m → BreaksNone format (marking_of m) before (marks m)
+mark_breaks_none format (lists l) before may =
+    (λ above. above.2 (may.next_is above.0 above.1), (forgotten_met before l may, (too_many_met before l may, (loser_place_met before l may, tt))))
 
 -- a record that may come breaks none of what may come
 pub may_breaks_none : (format : Format) (act : Act) (before : History) → MayCome before act → BreaksNone format (coming_of act) before act
@@ -104,8 +114,7 @@ may_breaks_none format (undoes u) before may = (
 may_breaks_none format (enters e) before may = (may.unfinished, (λ no. no may.last may.is_last may.page_is, tt))
 may_breaks_none format (commits f) before may = (may, tt)
 may_breaks_none format (ends f) before may = (may.unfinished, (λ some. some may.none, tt))
-may_breaks_none format (marks m) before may =
-    (λ above. above.2 (may.next_is above.0 above.1), (forgotten_met before l may, (too_many_met before l may, (loser_place_met before l may, tt))))
+may_breaks_none format (marks m) before may = mark_breaks_none format m before may
 
 -- a record that has what it asks of the inventory breaks none of that
 pub entered_breaks_none : (format : Format) (act : Act) (before : History) → IsEntered format before act → BreaksNone format (entering_of act) before act
@@ -119,13 +128,15 @@ entered_breaks_none format (marks m) before is = tt
 -- a record with which a history is legal breaks none of its conditions
 legal_breaks_none : (format : Format) (act : Act) (before : History) → IsLegal format (act ∷ before) → BreaksNone format (conditions_of act) before act
 legal_breaks_none format act before legal =
-    let behind : BreaksNone format (why.EntryBehind ∷ []) before act = (λ no. no legal.2.follow, tt) in
+    let last : BreaksNone format (why.EntryBehind ∷ []) before act = (λ no. no legal.2.follow, tt) in
     let inventory : BreaksNone format (entering_of act ++ why.EntryBehind ∷ []) before act =
-    none_append format (entering_of act) (why.EntryBehind ∷ []) before act (entered_breaks_none format act before legal.2.entered) behind in (
+    none_append format (entering_of act) (why.EntryBehind ∷ []) before act (entered_breaks_none format act before legal.2.entered) last in (
       λ no. no legal.1.above,
-      none_append format (coming_of act) (why.NoRoom ∷ entering_of act ++ why.EntryBehind ∷ []) before act (may_breaks_none format act before legal.1.may_come) (λ no. no legal.1.fits, inventory),
+      none_append format (coming_of act) (why.NoRoom ∷ entering_of act ++ why.EntryBehind ∷ []) before act
+          (may_breaks_none format act before legal.1.may_come) (λ no. no legal.1.fits, inventory),
     )
 
 -- a record that breaks one first makes no legal history
-pub first_refused : (format : Format) (act : Act) (before : History) (broken : Illegal) → IsFirstBroken format (conditions_of act) before act broken → IsLegal format (act ∷ before) → ⊥
+pub first_refused : (format : Format) (act : Act) (before : History) (broken : Illegal)
+    → IsFirstBroken format (conditions_of act) before act broken → IsLegal format (act ∷ before) → ⊥
 first_refused format act before broken first legal = none_first format (conditions_of act) before act broken (legal_breaks_none format act before legal) first

@@ -6,7 +6,7 @@ use Rattle.std.proofs.lemmas.List.{reverse-append}
 use Rattle.std.proofs.lemmas.List.Elements.{filter-append}
 use Rattle.rm_history.specs.Acts.{Change}
 use Rattle.rm_history.specs.Pending.{without}
-use Rattle.rm_audit.specs.Parts.{of_txn}
+use Rattle.rm_history.specs.Pending.{of_txn}
 
 -- a change is of the transaction
 abbrev pub is_of : ℕ → Change → Bool

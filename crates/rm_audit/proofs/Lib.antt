@@ -2,7 +2,7 @@ pub mod Breaking
 pub mod FirstIllegal
 pub mod Firsts
 pub mod Following
-pub mod Fronts
+pub mod Prefixes
 pub mod Judging
 pub mod Kept
 pub mod Newest

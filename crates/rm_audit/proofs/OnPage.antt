@@ -5,8 +5,8 @@ use Rattle.rm_history.specs.Acts.{Change, History}
 use Rattle.rm_history.specs.Pending.{all_pending}
 use Rattle.rm_history.specs.Needs.{on_page}
 use Rattle.rm_history.specs.Legal.{IsPendingOn}
-use Rattle.rm_audit.specs.Parts.{of_txn}
-use Rattle.rm_audit.proofs.Pendings.{pending_is}
+use Rattle.rm_history.specs.Pending.{of_txn}
+use Rattle.rm_history.proofs.AllPending.{pending_of_all}
 
 -- a list with a first is not empty
 pub some_change : (first : Change) (rest : List Change) → first ∷ rest ≡ [] → ⊥
@@ -26,10 +26,12 @@ none_of page txn (newest ∷ before) none =
           ]
     ]
 
-pub nothing_on : (history : History) (pending : List Change) (page : ℕ) → pending ≡ all_pending history → on_page page pending ≡ [] → IsPendingOn history page → ⊥
+pub nothing_on : (history : History) (pending : List Change) (page : ℕ) → pending ≡ all_pending history → on_page page pending ≡ []
+    → IsPendingOn history page → ⊥
 nothing_on history pending page is none some =
-    some.1 (ap (on_page page) (pending_is history some.0) ∙ none_of page some.0 (all_pending history) (ap (on_page page) (sym is) ∙ none))
+    some.1 (ap (on_page page) (pending_of_all history some.0) ∙ none_of page some.0 (all_pending history) (ap (on_page page) (sym is) ∙ none))
 
-pub something_on : (history : History) (pending : List Change) (page txn : ℕ) → pending ≡ all_pending history → (on_page page (of_txn txn pending) ≡ [] → ⊥) → IsPendingOn history page
+pub something_on : (history : History) (pending : List Change) (page txn : ℕ) → pending ≡ all_pending history
+    → (on_page page (of_txn txn pending) ≡ [] → ⊥) → IsPendingOn history page
 something_on history pending page txn is some =
-    (txn, λ none. some (ap (λ (l : List Change). on_page page (of_txn txn l)) is ∙ sym (ap (on_page page) (pending_is history txn)) ∙ none))
+    (txn, λ none. some (ap (λ (l : List Change). on_page page (of_txn txn l)) is ∙ sym (ap (on_page page) (pending_of_all history txn)) ∙ none))

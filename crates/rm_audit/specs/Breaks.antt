@@ -2,8 +2,10 @@
 use Rattle.std.specs.Prelude.{◌≡◌, ℕ, ◌<◌, [], ◌∷◌}
 use Rattle.rm_types.specs.declared.formats.Format.{Format}
 use Rattle.rm_types.specs.declared.places.Place.{Place}
-use Rattle.rm_history.specs.Acts.{Act, Change, Undo, Entry, Finish, Listing, History, changes, undoes, enters, commits, ends, marks, lsn_of, newest_lsn}
-use Rattle.rm_history.specs.Contents.{slot_at, page_of, category_of, entry_of}
+use Rattle.rm_history.specs.Acts.{Act, Change, Undo, Entry, Finish, History, changes, undoes, enters, commits, ends, marks, lsn_of, newest_lsn}
+use Rattle.rm_history.specs.Acts.{Mark, Listing, lists}
+use Rattle.rm_model.specs.Pages.{slot_at}
+use Rattle.rm_history.specs.Contents.{page_of, format_after, category_of, entry_of}
 use Rattle.rm_history.specs.Pending.{pending_of, last_of}
 use Rattle.rm_history.specs.Transactions.{IsFinished, HasRecord, HasChange}
 use Rattle.rm_history.specs.Needs.{need_of, Fits}
@@ -51,28 +53,32 @@ ListingBreaks why.TooMany before l = (loser : Place) × IsIn l.losers loser × (
 ListingBreaks why.LoserPlace before l = (loser : Place) × IsIn l.losers loser × (loser.at ≡ last_of (pending_of before loser.number) → ⊥)
 ListingBreaks _ before l = ⊥
 
+-- what a record of no transaction may break
+abbrev pub MarkBreaks : Illegal → History → Mark → Type 0
+MarkBreaks why before (lists l) = ListingBreaks why before l
+
 -- what the end of a transaction may break
 abbrev pub EndBreaks : Illegal → History → Finish → Type 0
 EndBreaks why.StillPending before f = pending_of before f.txn ≡ [] → ⊥
 EndBreaks _ before f = ⊥
 
--- what a record may break of what may come behind these
+-- what a record may break of what may come after these
 abbrev pub ComingBreaks : Illegal → History → Act → Type 0
 ComingBreaks why before (changes c) = ChangeBreaks why before c
 ComingBreaks why before (undoes u) = UndoBreaks why before u
 ComingBreaks why before (enters e) = EntryBreaks why before e
 ComingBreaks why before (commits f) = ⊥
 ComingBreaks why before (ends f) = EndBreaks why before f
-ComingBreaks why before (marks m) = ListingBreaks why before l
+ComingBreaks why before (marks m) = MarkBreaks why before m
 
--- The record breaks this condition behind these. What it asks of the inventory is broken by undoes and entries alone.
+-- The record breaks this condition after these. What it asks of the inventory is broken by undoes and entries alone.
 abbrev pub Breaks : Format → Illegal → History → Act → Type 0
-Breaks format why.NotAbove before act = newest_lsn before < lsn_of act → ⊥
-Breaks format why.Finished before act = IsOfFinished before act
-Breaks format why.NoRoom before act = Fits (act ∷ before) → ⊥
-Breaks format why.Entry before (undoes u) = entry_of before u.rid.page ≡ category_with format before u.rid u.back → ⊥
-Breaks format why.SameCategory before (enters e) = e.category ≡ entry_of before e.page
-Breaks format why.WrongCategory before (enters e) = (e.category ≡ category_of format (page_of before e.page) → ⊥)
-    × ((last : Change) × IsLast before e.txn last × (e.category ≡ category_with format before last.rid last.before → ⊥))
-Breaks format why.EntryBehind before act = EntriesFollow format (act ∷ before) → ⊥
-Breaks format other before act = ComingBreaks other before act
+Breaks start why.NotAbove before act = newest_lsn before < lsn_of act → ⊥
+Breaks start why.Finished before act = IsOfFinished before act
+Breaks start why.NoRoom before act = Fits (act ∷ before) → ⊥
+Breaks start why.Entry before (undoes u) = entry_of before u.rid.page ≡ category_with start before u.rid u.back → ⊥
+Breaks start why.SameCategory before (enters e) = e.category ≡ entry_of before e.page
+Breaks start why.WrongCategory before (enters e) = (e.category ≡ category_of (format_after start before) (page_of before e.page) → ⊥)
+    × ((last : Change) × IsLast before e.txn last × (e.category ≡ category_with start before last.rid last.before → ⊥))
+Breaks start why.EntryBehind before act = EntriesFollow start (act ∷ before) → ⊥
+Breaks start other before act = ComingBreaks other before act

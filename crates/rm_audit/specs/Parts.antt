@@ -1,16 +1,13 @@
 -- What of a record, and of what is pending, the audit looks at.
-use Rattle.std.specs.Prelude.{◌≡◌, ℕ, ◌+◌, ◌<◌, ◌≤◌, ◌==◌, if◌then◌else◌, List, [], ◌∷◌, length, reverse, Option, Some, None, ◌⊎◌}
+use Rattle.std.specs.Prelude.{◌≡◌, ℕ, ◌<◌, List, [], ◌∷◌, length, reverse, Option, Some, None}
 use Rattle.std.specs.List.{remove}
 use Rattle.rm_types.specs.declared.formats.Format.{Format}
 use Rattle.rm_types.specs.declared.places.Place.{Place}
-use Rattle.rm_types.specs.declared.slots.TheConstants.{CAPACITY}
-use Rattle.rm_model.specs.Pages.{used}
 use Rattle.rm_history.specs.Acts.{Act, Change, History, changes, undoes, enters, commits, ends, marks}
-use Rattle.rm_history.specs.Contents.{page_of, entry_of, category_of}
-use Rattle.rm_history.specs.Pending.{without_newest}
-use Rattle.rm_history.specs.Needs.{on_page, need_for, need_of, sum_below}
+use Rattle.rm_history.specs.Pending.{of_txn, without_newest}
+use Rattle.rm_history.specs.Needs.{on_page, need_for}
 use Rattle.rm_history.specs.Rules.{IsIn}
-use Rattle.rm_history.specs.Legal.{IsPendingOn}
+use Rattle.rm_history.specs.Legal.{FollowsOn}
 
 -- the change that a record makes, if it makes one forward
 abbrev pub change_in : Act → Option Change
@@ -30,11 +27,6 @@ page_in (commits f) = None
 page_in (ends f) = None
 page_in (marks m) = None
 
--- the changes that are of a transaction
-abbrev pub of_txn : ℕ → List Change → List Change
-of_txn txn [] = []
-of_txn txn (newest ∷ before) = if newest.txn == txn then newest ∷ of_txn txn before else of_txn txn before
-
 -- in a list of changes, the oldest first, the newest of a transaction stands here, if it has one
 abbrev pub IsNewestOf : ℕ → List Change → Option ℕ → Type 0
 IsNewestOf txn oldest None = without_newest (reverse oldest) txn ≡ reverse oldest
@@ -53,18 +45,10 @@ IsLed txn (newest ∷ before) = newest.txn ≡ txn
 abbrev pub IsNamed : List Place → ℕ → Type 0
 IsNamed places number = (place : Place) × IsIn places place × (place.number ≡ number)
 
--- a page has room for what it holds and for what all transactions' undo needs there
-abbrev pub FitsOn : History → ℕ → Type 0
-FitsOn history page = (n : ℕ) → used (page_of history page) + sum_below (λ txn. need_of history txn page) n ≤ CAPACITY
-
--- a page's entry is its category, or it has a pending change
-abbrev pub FollowsOn : Format → History → ℕ → Type 0
-FollowsOn format history page = (entry_of history page ≡ category_of format (page_of history page)) ⊎ IsPendingOn history page
-
 -- each page of these changes follows
 abbrev pub EachFollows : Format → History → List Change → Type 0
-EachFollows format history [] = Unit {0}
-EachFollows format history (newest ∷ before) = FollowsOn format history newest.rid.page × EachFollows format history before
+EachFollows start history [] = Unit {0}
+EachFollows start history (newest ∷ before) = FollowsOn start history newest.rid.page × EachFollows start history before
 
 -- of these changes one on the page is of this transaction, or none is on the page
 abbrev pub IsSomeOn : ℕ → List Change → Option ℕ → Type 0

@@ -32,7 +32,7 @@ fn is_above(log: &[Logged], lsn: Lsn) -> bool
     }
 }
 
-// What a record breaks first of what may come behind a log.
+// What a record breaks first of what may come after a log.
 fn check_kind(alloc: Global, log: &[Logged], logged: &Logged) -> Result<Option<Illegal>, NoMemory>
     ensures { (format : Formats) → IfOk result (IsFound format (MayCome (acts_of log.now) (act_of logged.now)) (coming_of (act_of logged.now)) (acts_of log.now) (act_of logged.now)) }
 {
@@ -73,7 +73,7 @@ fn page_of_record(logged: &Logged) -> Option<u32>
     }
 }
 
-// Whether there is room behind the last record of a log, where it may come and there was room before.
+// Whether there is room after the last record of a log, where it may come and there was room before.
 fn has_room(alloc: Global, log: &[Logged], last: &Logged) -> Result<bool, NoMemory>
     ensures { (before : History) → acts_of log.now ≡ act_of last.now ∷ before
         → IfOk result (λ room. MatchBool room (MayCome before (act_of last.now) → Fits before → Fits (acts_of log.now)) (Fits (acts_of log.now) → ⊥)) }
@@ -84,7 +84,7 @@ fn has_room(alloc: Global, log: &[Logged], last: &Logged) -> Result<bool, NoMemo
     }
 }
 
-// Whether the inventory follows behind the last record of a log, where this may come and has what it asks of the
+// Whether the inventory follows after the last record of a log, where this may come and has what it asks of the
 // inventory, which followed before.
 fn has_followed(
     alloc: Global,
@@ -102,7 +102,7 @@ fn has_followed(
     }
 }
 
-// What the last record of a log breaks first behind those before it, which make a legal log.
+// What the last record of a log breaks first after those before it, which make a legal log.
 fn judge(
     alloc: Global,
     format: Format,
@@ -110,7 +110,7 @@ fn judge(
     log: &[Logged],
     last: &Logged,
 ) -> Result<Option<Illegal>, NoMemory>
-    requires behind { acts_of log.now ≡ act_of last.now ∷ acts_of before.now }
+    requires after { acts_of log.now ≡ act_of last.now ∷ acts_of before.now }
     requires legal { IsLegal format (acts_of before.now) }
     ensures { IfOk result (IsFound format (IsLegal format (act_of last.now ∷ acts_of before.now)) (conditions_of (act_of last.now)) (acts_of before.now) (act_of last.now)) }
 {

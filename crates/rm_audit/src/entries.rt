@@ -4,7 +4,8 @@ ghost use Rattle.std.specs.Prelude.{◌≡◌, List, ◌∷◌, reverse, IfOk, M
 ghost use Rattle.rm_history.specs.Acts.{Change as Changes, acts_of};
 ghost use Rattle.rm_history.specs.Pending.{pending_of};
 ghost use Rattle.rm_history.specs.Legal.{IsPendingOn, EntriesFollow};
-ghost use Rattle.rm_audit.specs.Parts.{IsSomeOn, FollowsOn, EachFollows};
+ghost use Rattle.rm_history.specs.Legal.{FollowsOn};
+ghost use Rattle.rm_audit.specs.Parts.{IsSomeOn, EachFollows};
 
 use crate::changes::Change;
 use crate::pages::{category_now, entry};

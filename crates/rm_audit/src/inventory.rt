@@ -76,7 +76,7 @@ fn check_category(
     Ok(Some(Illegal::WrongCategory))
 }
 
-/// What a record that may come behind a log breaks first of what it asks of the inventory.
+/// What a record that may come after a log breaks first of what it asks of the inventory.
 pub(crate) fn check_inventory(
     alloc: Global,
     format: Format,

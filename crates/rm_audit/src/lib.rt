@@ -27,6 +27,3 @@ pub use pending::{all_pending, pending_changes};
 pub use rows::{committed_rows, row};
 pub use transactions::{has_record, is_finished};
 pub use verdicts::{Illegal, Verdict};
-
-#[cfg(test)]
-mod tests;

@@ -1,9 +1,9 @@
-//! Whether a checkpoint may come behind a log.
+//! Whether a checkpoint may come after a log.
 
 ghost use Rattle.std.specs.Prelude.{◌≡◌, ℕ, ◌<◌, List, IsTrue, ◌↔◌, IfOk, MatchOption, MatchBool};
 ghost use Rattle.rm_types.specs.declared.formats.Format.{Format as Formats};
 ghost use Rattle.rm_types.specs.declared.places.Place.{Place as Places};
-ghost use Rattle.rm_history.specs.Acts.{lists, acts_of};
+ghost use Rattle.rm_history.specs.Acts.{lists, marks, acts_of};
 ghost use Rattle.rm_history.specs.Pending.{last_of, pending_of};
 ghost use Rattle.rm_history.specs.Transactions.{IsFinished, HasRecord};
 ghost use Rattle.rm_history.specs.Rules.{IsIn, MayList};
@@ -18,7 +18,7 @@ use rm_types::{NoMemory, Place, TxnId};
 use std::alloc::Global;
 
 // A transaction with a record whose id is not below this one, if there is one.
-#[tactic(auto, using(crate::proofs::Fronts::acts_more))]
+#[tactic(auto, using(crate::proofs::Prefixes::acts_more))]
 fn not_below(log: &[Logged], next: u64) -> Option<TxnId>
     ensures { MatchOption result ((txn : ℕ) → HasRecord (acts_of log.now) txn → txn < next)
         (λ txn. HasRecord (acts_of log.now) txn.0 × (txn.0 < next → ⊥)) }
@@ -55,7 +55,7 @@ fn is_forgotten(log: &[Logged], losers: &[Place], txn: TxnId) -> bool
 }
 
 // A transaction that has a record and is not finished, and for which none of the places is, if there is one.
-#[tactic(auto, using(crate::proofs::Fronts::acts_more))]
+#[tactic(auto, using(crate::proofs::Prefixes::acts_more))]
 fn forgotten(log: &[Logged], losers: &[Place]) -> Option<TxnId>
     ensures { MatchOption result ((txn : ℕ) → (txn ≡ 0 → ⊥) → HasRecord (acts_of log.now) txn → (IsFinished (acts_of log.now) txn → ⊥) → IsNamed losers.now txn)
         (λ txn. (txn.0 ≡ 0 → ⊥) × HasRecord (acts_of log.now) txn.0 × (IsFinished (acts_of log.now) txn.0 → ⊥) × ((place : Places) → IsIn losers.now place → place.number ≡ txn.0 → ⊥)) }
@@ -103,7 +103,7 @@ fn misplaced(alloc: Global, log: &[Logged], losers: &[Place]) -> Result<Option<P
     Ok(None)
 }
 
-/// What a checkpoint breaks first of what may come behind a log.
+/// What a checkpoint breaks first of what may come after a log.
 pub(crate) fn check_listing(
     alloc: Global,
     log: &[Logged],
@@ -111,8 +111,8 @@ pub(crate) fn check_listing(
     losers: &[Place],
 ) -> Result<Option<Illegal>, NoMemory>
     ensures { (format : Formats) (lsn : ℕ) (pages blocks : List Places) → IfOk result (IsFound format (MayList (acts_of log.now) (record { lsn = lsn; next = next; losers = losers.now; pages = pages; blocks = blocks }))
-        (coming_of (lists (record { lsn = lsn; next = next; losers = losers.now; pages = pages; blocks = blocks }))) (acts_of log.now)
-        (lists (record { lsn = lsn; next = next; losers = losers.now; pages = pages; blocks = blocks }))) }
+        (coming_of (marks (lists (record { lsn = lsn; next = next; losers = losers.now; pages = pages; blocks = blocks })))) (acts_of log.now)
+        (marks (lists (record { lsn = lsn; next = next; losers = losers.now; pages = pages; blocks = blocks })))) }
 {
     if not_below(log, next).is_some() {
         return Ok(Some(Illegal::NextId));

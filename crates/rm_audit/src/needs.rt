@@ -46,7 +46,7 @@ fn need_among(pending: &[Change], txn: TxnId, page: u32) -> u128
 
 /// The bytes that a transaction's undo may need on a page. No type bounds how many changes there are, so the count
 /// is wide.
-#[tactic(auto, using(crate::proofs::Pendings::pending_is))]
+#[tactic(auto, using(rm_history::proofs::AllPending::pending_of_all))]
 pub fn need(alloc: Global, log: &[Logged], txn: TxnId, page: u32) -> Result<u128, NoMemory>
     ensures { IfOk result (λ need. need ≡ need_of (acts_of log.now) txn.0 page) }
 {

@@ -11,7 +11,7 @@ use rm_record::{LogRecord, Logged};
 use rm_types::{Format, Lsn, NoMemory, Rid, SLOT_ENTRY, Slot};
 use std::alloc::Global;
 
-// Brings the slots of a page behind one record more.
+// Brings the slots of a page after one record more.
 fn page_step(slots: &mut Vec<Slot>, logged: &Logged, page: u32) -> Result<(), NoMemory>
     ensures { (before : History) → slots.old.items ≡ page_of before page → OnOk result (slots.new.items ≡ page_of (act_of logged.now ∷ before) page) }
 {
@@ -31,7 +31,7 @@ fn page_step(slots: &mut Vec<Slot>, logged: &Logged, page: u32) -> Result<(), No
 }
 
 /// The slots of a page: each record that names a slot of it sets that slot.
-#[tactic(auto, using(crate::proofs::Fronts::acts_more))]
+#[tactic(auto, using(crate::proofs::Prefixes::acts_more))]
 pub fn page(alloc: Global, log: &[Logged], number: u32) -> Result<Vec<Slot>, NoMemory>
     ensures { IfOk result (λ slots. slots.items ≡ page_of (acts_of log.now) number) }
 {
@@ -42,7 +42,7 @@ pub fn page(alloc: Global, log: &[Logged], number: u32) -> Result<Vec<Slot>, NoM
     Ok(slots)
 }
 
-// The version of a page behind one record more.
+// The version of a page after one record more.
 fn version_step(version: Lsn, logged: &Logged, page: u32) -> Lsn
     ensures { (before : History) → version.0 ≡ version_of before page → result.0 ≡ version_of (act_of logged.now ∷ before) page }
 {
@@ -57,7 +57,7 @@ fn version_step(version: Lsn, logged: &Logged, page: u32) -> Lsn
 }
 
 /// The version of a page: the LSN of the last record that set a slot of it, 0 for none.
-#[tactic(auto, using(crate::proofs::Fronts::acts_more))]
+#[tactic(auto, using(crate::proofs::Prefixes::acts_more))]
 pub fn version(log: &[Logged], page: u32) -> Lsn
     ensures { result.0 ≡ version_of (acts_of log.now) page }
 {
@@ -68,7 +68,7 @@ pub fn version(log: &[Logged], page: u32) -> Lsn
     version
 }
 
-// The entry of a page behind one record more.
+// The entry of a page after one record more.
 fn entry_step(entry: u8, logged: &Logged, number: u32) -> u8
     ensures { (before : History) → entry ≡ entry_of before number → result ≡ entry_of (act_of logged.now ∷ before) number }
 {
@@ -79,7 +79,7 @@ fn entry_step(entry: u8, logged: &Logged, number: u32) -> u8
 }
 
 /// The category that the inventory has for a page, 0 before the first.
-#[tactic(auto, using(crate::proofs::Fronts::acts_more))]
+#[tactic(auto, using(crate::proofs::Prefixes::acts_more))]
 pub fn entry(log: &[Logged], page: u32) -> u8
     ensures { result ≡ entry_of (acts_of log.now) page }
 {

@@ -4,16 +4,17 @@ ghost use Rattle.std.specs.Prelude.{◌≡◌, List, [], ◌∷◌, ◌++◌, le
 ghost use Rattle.rm_history.specs.Acts.{Change as Changes, History, act_of, acts_of};
 ghost use Rattle.rm_history.specs.Pending.{without_newest, without, all_pending as all_pending_of, pending_of};
 ghost use Rattle.rm_history.specs.Rules.{IsLast};
-ghost use Rattle.rm_audit.specs.Parts.{of_txn, IsNewestOf};
+ghost use Rattle.rm_history.specs.Pending.{of_txn};
+ghost use Rattle.rm_audit.specs.Parts.{IsNewestOf};
 
 use crate::changes::{Change, change_of};
 use rm_record::{LogRecord, Logged};
 use rm_types::{NoMemory, TxnId};
 use std::alloc::Global;
 
-// Where the newest change of a transaction stands, with one change more behind the others.
+// Where the newest change of a transaction stands, with one change more after the others.
 fn newest_step(found: Option<usize>, index: usize, change: &Change, txn: TxnId) -> Option<usize>
-    ensures { (front : List Changes) → length front ≡ index → IsNewestOf txn.0 front found → IsNewestOf txn.0 (front ++ change.now ∷ []) result }
+    ensures { (prefix : List Changes) → length prefix ≡ index → IsNewestOf txn.0 prefix found → IsNewestOf txn.0 (prefix ++ change.now ∷ []) result }
 {
     if change.txn.0 == txn.0 {
         Some(index)
@@ -56,7 +57,7 @@ fn keep_of(pending: &mut Vec<Change>, txn: TxnId)
     pending.retain(|change| change.txn.0 == txn.0);
 }
 
-/// Brings the pending changes of all transactions, the oldest first, behind one record more.
+/// Brings the pending changes of all transactions, the oldest first, after one record more.
 pub(crate) fn pending_step(pending: &mut Vec<Change>, logged: &Logged) -> Result<(), NoMemory>
     ensures { (before : History) → reverse pending.old.items ≡ all_pending_of before → OnOk result (reverse pending.new.items ≡ all_pending_of (act_of logged.now ∷ before)) }
 {
@@ -74,7 +75,7 @@ pub(crate) fn pending_step(pending: &mut Vec<Change>, logged: &Logged) -> Result
 
 /// The pending changes of all transactions, the oldest first: those that are not undone, while their transaction is
 /// not finished.
-#[tactic(auto, using(crate::proofs::Fronts::acts_more))]
+#[tactic(auto, using(crate::proofs::Prefixes::acts_more))]
 pub fn all_pending(alloc: Global, log: &[Logged]) -> Result<Vec<Change>, NoMemory>
     ensures { IfOk result (λ pending. reverse pending.items ≡ all_pending_of (acts_of log.now)) }
 {
@@ -86,7 +87,7 @@ pub fn all_pending(alloc: Global, log: &[Logged]) -> Result<Vec<Change>, NoMemor
 }
 
 /// A transaction's pending changes, the oldest first.
-#[tactic(auto, using(crate::proofs::Pendings::pending_is))]
+#[tactic(auto, using(rm_history::proofs::AllPending::pending_of_all))]
 pub fn pending_changes(alloc: Global, log: &[Logged], txn: TxnId) -> Result<Vec<Change>, NoMemory>
     ensures { IfOk result (λ pending. reverse pending.items ≡ pending_of (acts_of log.now) txn.0) }
 {

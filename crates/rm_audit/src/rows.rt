@@ -51,7 +51,7 @@ fn apply(rows: &mut BTreeMap<Rid, Row>, changes: &[Change]) -> Result<(), NoMemo
     Ok(())
 }
 
-// Brings the committed rows behind one record more.
+// Brings the committed rows after one record more.
 fn rows_step(
     alloc: Global,
     rows: &mut BTreeMap<Rid, Row>,
@@ -68,7 +68,7 @@ fn rows_step(
 }
 
 /// The committed rows, in order of their pages and slots: a commit makes its transaction's pending changes.
-#[tactic(auto, using(crate::proofs::Fronts::acts_more))]
+#[tactic(auto, using(crate::proofs::Prefixes::acts_more))]
 pub fn committed_rows(alloc: Global, log: &[Logged]) -> Result<BTreeMap<Rid, Row>, NoMemory>
     ensures { IfOk result (λ rows. HasRows rows (rows_of_log (acts_of log.now))) }
 {

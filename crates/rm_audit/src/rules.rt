@@ -1,4 +1,4 @@
-//! Whether a record of a transaction may come behind a log.
+//! Whether a record of a transaction may come after a log.
 
 ghost use Rattle.std.specs.Prelude.{◌≡◌, ℕ, IfOk};
 ghost use Rattle.rm_types.specs.declared.formats.Format.{Format as Formats};
@@ -29,7 +29,7 @@ pub(crate) fn last_lsn(alloc: Global, log: &[Logged], txn: TxnId) -> Result<Lsn,
     }
 }
 
-/// What a change breaks first of what may come behind a log.
+/// What a change breaks first of what may come after a log.
 pub(crate) fn check_change(
     alloc: Global,
     log: &[Logged],
@@ -57,7 +57,7 @@ pub(crate) fn check_change(
     Ok(None)
 }
 
-/// What a compensation breaks first of what may come behind a log.
+/// What a compensation breaks first of what may come after a log.
 pub(crate) fn check_undo(
     alloc: Global,
     log: &[Logged],
@@ -92,7 +92,7 @@ pub(crate) fn check_undo(
     Ok(None)
 }
 
-/// What an inventory record breaks first of what may come behind a log.
+/// What an inventory record breaks first of what may come after a log.
 pub(crate) fn check_entry(
     alloc: Global,
     log: &[Logged],
@@ -115,7 +115,7 @@ pub(crate) fn check_entry(
     Ok(None)
 }
 
-/// What a commit breaks of what may come behind a log.
+/// What a commit breaks of what may come after a log.
 pub(crate) fn check_commit(log: &[Logged], txn: TxnId) -> Option<Illegal>
     ensures { (format : Formats) (lsn : ℕ) → IsFound format (IsFinished (acts_of log.now) txn.0 → ⊥) (coming_of (commits (record { lsn = lsn; txn = txn.0 }))) (acts_of log.now) (commits (record { lsn = lsn; txn = txn.0 })) result }
 {
@@ -126,7 +126,7 @@ pub(crate) fn check_commit(log: &[Logged], txn: TxnId) -> Option<Illegal>
     }
 }
 
-/// What an end breaks first of what may come behind a log.
+/// What an end breaks first of what may come after a log.
 pub(crate) fn check_end(
     alloc: Global,
     log: &[Logged],

@@ -2,8 +2,7 @@
 
 ghost use Rattle.std.specs.Prelude.{◌≡◌, ◌≤◌, ◌++◌, replicate, IsTrue, ◌↔◌, IfOk, OnOk};
 ghost use Rattle.rm_types.specs.declared.rows.TheConstants.{MAX_ROW};
-ghost use Rattle.rm_model.specs.Pages.{row_length, set_slot};
-ghost use Rattle.rm_history.specs.Contents.{slot_at};
+ghost use Rattle.rm_model.specs.Pages.{row_length, set_slot, slot_at};
 
 use rm_types::{NoMemory, Slot};
 
@@ -49,7 +48,7 @@ pub(crate) fn holds(slots: &[Slot], number: u16, slot: &Slot) -> bool
     }
 }
 
-// Puts so many vacant slots behind them.
+// Puts `count` vacant slots after them.
 fn pad(slots: &mut Vec<Slot>, count: usize) -> Result<(), NoMemory>
     ensures { OnOk result (slots.new.items ≡ slots.old.items ++ replicate count Slot.Vacant) }
 {

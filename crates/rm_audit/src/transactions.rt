@@ -38,7 +38,7 @@ fn changer_of(logged: &Logged, place: Rid) -> Option<TxnId>
     }
 }
 
-// Whether a transaction is finished behind one record more.
+// Whether a transaction is finished after one record more.
 fn finished_step(finished: bool, logged: &Logged, of: TxnId) -> bool
     ensures { (before : History) → (IsTrue finished ↔ IsFinished before of.0) → (IsTrue result ↔ IsFinished (act_of logged.now ∷ before) of.0) }
 {
@@ -49,7 +49,7 @@ fn finished_step(finished: bool, logged: &Logged, of: TxnId) -> bool
 }
 
 /// Whether a transaction has its commit or end record.
-#[tactic(auto, using(crate::proofs::Fronts::acts_more))]
+#[tactic(auto, using(crate::proofs::Prefixes::acts_more))]
 pub fn is_finished(log: &[Logged], txn: TxnId) -> bool
     ensures { IsTrue result ↔ IsFinished (acts_of log.now) txn.0 }
 {
@@ -60,7 +60,7 @@ pub fn is_finished(log: &[Logged], txn: TxnId) -> bool
     finished
 }
 
-// Whether a transaction has a record, behind one record more.
+// Whether a transaction has a record, after one record more.
 fn has_record_step(has: bool, logged: &Logged, txn: TxnId) -> bool
     ensures { (before : History) → (IsTrue has ↔ HasRecord before txn.0) → (IsTrue result ↔ HasRecord (act_of logged.now ∷ before) txn.0) }
 {
@@ -68,7 +68,7 @@ fn has_record_step(has: bool, logged: &Logged, txn: TxnId) -> bool
 }
 
 /// Whether a transaction has a record.
-#[tactic(auto, using(crate::proofs::Fronts::acts_more))]
+#[tactic(auto, using(crate::proofs::Prefixes::acts_more))]
 pub fn has_record(log: &[Logged], txn: TxnId) -> bool
     ensures { IsTrue result ↔ HasRecord (acts_of log.now) txn.0 }
 {
@@ -80,7 +80,7 @@ pub fn has_record(log: &[Logged], txn: TxnId) -> bool
 }
 
 /// Another unfinished transaction that has a change record on the row id, if there is one.
-#[tactic(auto, using(crate::proofs::Fronts::acts_more))]
+#[tactic(auto, using(crate::proofs::Prefixes::acts_more))]
 pub(crate) fn open_other(log: &[Logged], txn: TxnId, rid: Rid) -> Option<TxnId>
     ensures { MatchOption result ((other : ℕ) → (other ≡ txn.0 → ⊥) → HasChange (acts_of log.now) other rid → IsFinished (acts_of log.now) other)
         (λ other. (other.0 ≡ txn.0 → ⊥) × HasChange (acts_of log.now) other.0 rid × (IsFinished (acts_of log.now) other.0 → ⊥)) }

@@ -37,15 +37,15 @@ pub enum Illegal {
     TooMany,
     /// A checkpoint that lists a transaction with another LSN than that of its last pending change.
     LoserPlace,
-    /// Behind the record a page lacks room for what it holds and what undo needs there.
+    /// After the record a page lacks room for what it holds and what undo needs there.
     NoRoom,
-    /// A compensation behind which the page's entry is not its category.
+    /// A compensation after which the page's entry is not its category.
     Entry,
     /// An inventory record with the category that the inventory has.
     SameCategory,
     /// An inventory record with a category that is neither the page's nor what that is with the last change undone.
     WrongCategory,
-    /// Behind the record a page has another category than its entry, and no pending change.
+    /// After the record a page has another category than its entry, and no pending change.
     EntryBehind,
 }
 

@@ -1,5 +1,5 @@
 -- Where nothing fails, what is due for a command tells that it was done.
-use Rattle.std.proofs.Common.{◌≡◌, ℕ, Bool, true, false, List, [], Option, Some, None, refl, sym, ap, ◌∙◌, subst, inl, inr, arith}
+use Rattle.std.proofs.Common.{◌≡◌, ℕ, Bool, true, false, List, [], Option, Some, None, IsTrue, refl, sym, ap, ◌∙◌, subst, inl, inr, arith}
 use Rattle.std.proofs.lemmas.Bool.{true≢false}
 use Rattle.std.specs.Prelude.{MatchBool}
 use Rattle.rm_types.specs.declared.areas.Area.{Area}
@@ -7,6 +7,8 @@ use Rattle.rm_types.specs.declared.areas.Area.TheVariants.{Log}
 use Rattle.rm_script.specs.declared.lines.Line.{Line}
 use Rattle.rm_script.specs.declared.lines.Which.TheVariants as which
 use Rattle.rm_outside.specs.Images.{Image}
+use Rattle.rm_outside.specs.Calls.{Facts, HasFailed}
+use Rattle.rm_master.specs.Slots.{IsMade}
 use Rattle.rm_session.specs.Session.{State}
 use Rattle.rm_script.specs.Grammar.{IsTurns, IsWithinLimits}
 use Rattle.rm_script.proofs.Turns.{none_wrong}
@@ -24,43 +26,43 @@ use Rattle.rm_command.specs.declared.statuses.Status.{Status}
 use Rattle.rm_command.specs.declared.statuses.Status.TheVariants as status
 use Rattle.rm_command.specs.Reading.{HasLeft}
 use Rattle.rm_command.specs.Told.{is_sink, Answers}
-use Rattle.rm_command.specs.Volumes.{IsMade, CreateText, RefusedText, RestartText}
+use Rattle.rm_command.specs.Volumes.{CreateText, RefusedText, RestartText}
 use Rattle.rm_command.specs.Turns.{RunText, ScriptText, TurnsDue}
 use Rattle.rm_command.specs.Complete.{IsDone, IsDoneOrRefused, IsSettled, EndsRight}
 use Rattle.rm_command.specs.Due.{DueFor}
 use Rattle.rm_command.proofs.PlainLemmas.{plain_done}
 
 -- what a settled volume has needs no undo
-settled : (told : Type 0) (content : Image) (id : ℕ) → NeedsUndoOf told content id → told → IsSettled content → ⊥
-settled told content id needs tells calm =
-    let same = log_once (content Log) needs.batches calm.sound.batches (needs.read.has_log tells) calm.sound.image.log in
+settled : (models : Type 0) (content : Image) (id : ℕ) → NeedsUndoOf models content id → models → IsSettled content → ⊥
+settled models content id needs modelled calm =
+    let same = log_once (content Log) needs.batches calm.image.batches (needs.read.has_log modelled) calm.image.sound.has_log in
     needs.pends (subst (λ (b : List Batch). pending_of (acts_of_batches b) id ≡ []) (sym same) (calm.none id))
 
-module _ (told : Type 0) (content : Image) (risen : Area → Type 0) (tells : told) (well : (area : Area) → risen area → ⊥) where
+module _ (old new : Facts) (models : IsTrue old.models_content) (well : (area : Area) → HasFailed old new area → ⊥) where
   -- a volume that is not made
-  create_done : (pages : ℕ) (leaves : Image → Type 0) (answer : Status) (text : List ℕ) → (IsMade content → ⊥) → CreateText pages told content leaves risen answer text → IsDone answer
-  create_done pages leaves status.Done text unmade due = inl refl
-  create_done pages leaves status.NoMemory text unmade due = inr refl
-  create_done pages leaves (status.Volume area) text unmade due = absurd (well area due.0)
-  create_done pages leaves status.AlreadyMade text unmade due = absurd (unmade (due.0 tells))
-  create_done pages leaves status.Usage text unmade due = absurd due
-  create_done pages leaves (status.BadScript line) text unmade due = absurd due
-  create_done pages leaves status.Source text unmade due = absurd due
-  create_done pages leaves status.Sink text unmade due = absurd due
-  create_done pages leaves status.NotMade text unmade due = absurd due
-  create_done pages leaves (status.Damaged area at) text unmade due = absurd due
-  create_done pages leaves (status.Limit what) text unmade due = absurd due
-  create_done pages leaves (status.LogFull end) text unmade due = absurd due
-  create_done pages leaves (status.TxnsSpent last) text unmade due = absurd due
-  create_done pages leaves (status.NeedsUndo txn) text unmade due = absurd due
+  create_done : (pages : ℕ) (answer : Status) (text : List ℕ) → (IsMade old.content → ⊥) → CreateText pages old new answer text → IsDone answer
+  create_done pages status.Done text unmade due = inl refl
+  create_done pages status.NoMemory text unmade due = inr refl
+  create_done pages (status.Volume area) text unmade due = absurd (well area due.0)
+  create_done pages status.AlreadyMade text unmade due = absurd (unmade (due.0 models))
+  create_done pages status.Usage text unmade due = absurd due
+  create_done pages (status.BadScript line) text unmade due = absurd due
+  create_done pages status.Source text unmade due = absurd due
+  create_done pages status.Sink text unmade due = absurd due
+  create_done pages status.NotMade text unmade due = absurd due
+  create_done pages (status.Damaged area at) text unmade due = absurd due
+  create_done pages (status.Limit what) text unmade due = absurd due
+  create_done pages (status.LogFull end) text unmade due = absurd due
+  create_done pages (status.TxnsSpent last) text unmade due = absurd due
+  create_done pages (status.NeedsUndo txn) text unmade due = absurd due
 
   -- a settled volume is opened
-  opened : (answer : Status) (text : List ℕ) → IsSettled content → RefusedText told content risen answer text → answer ≡ status.NoMemory
+  opened : (answer : Status) (text : List ℕ) → IsSettled old.content → RefusedText old new answer text → answer ≡ status.NoMemory
   opened status.NoMemory text calm due = refl
   opened (status.Volume area) text calm due = absurd (well area due.0)
-  opened status.NotMade text calm due = absurd (sound_is_made content (due.0 tells) calm.sound)
-  opened (status.Damaged area at) text calm due = absurd (sound_is_not_damaged content area at (due.1 tells) calm.sound)
-  opened (status.NeedsUndo txn) text calm due = absurd (settled told content txn.0 due.0 tells calm)
+  opened status.NotMade text calm due = absurd (sound_is_made old.content (due.0 models) calm.image)
+  opened (status.Damaged area at) text calm due = absurd (sound_is_not_damaged old.content area at (due.1 models) calm.image)
+  opened (status.NeedsUndo txn) text calm due = absurd (settled (IsTrue old.models_content) old.content txn.0 due.0 models calm)
   opened status.Done text calm due = absurd due
   opened status.Usage text calm due = absurd due
   opened (status.BadScript line) text calm due = absurd due
@@ -71,7 +73,7 @@ module _ (told : Type 0) (content : Image) (risen : Area → Type 0) (tells : to
   opened (status.LogFull end) text calm due = absurd due
   opened (status.TxnsSpent last) text calm due = absurd due
 
-  restart_done : (answer : Status) (text : List ℕ) → IsSettled content → RestartText told content risen answer text → IsDone answer
+  restart_done : (answer : Status) (text : List ℕ) → IsSettled old.content → RestartText old new answer text → IsDone answer
   restart_done status.Done text calm due = inl refl
   restart_done status.NoMemory text calm due = inr refl
   restart_done (status.Volume area) text calm due = inr (opened (status.Volume area) text calm due)
@@ -89,7 +91,7 @@ module _ (told : Type 0) (content : Image) (risen : Area → Type 0) (tells : to
 
   -- the lines of a session were done, or refused
   run_done : (first : State) (start : Used) (lines : List Line) (Leaves : List Line → List Reply → Option Line → Type 0) (answer : Status) (text : List ℕ) → (answer ≡ status.Sink → ⊥)
-      → RunText first start lines Leaves risen answer text → IsDoneOrRefused answer
+      → RunText first start lines Leaves (HasFailed old new) answer text → IsDoneOrRefused answer
   run_done first start lines Leaves status.Done text sink_well due = inl (inl refl)
   run_done first start lines Leaves status.NoMemory text sink_well due = inl (inr refl)
   run_done first start lines Leaves (status.LogFull end) text sink_well due = inr (inl (end, refl))
@@ -125,41 +127,35 @@ script_right bytes lines source_failed (status.TxnsSpent last) text right limits
 script_right bytes lines source_failed (status.NeedsUndo txn) text right limits source_well due = absurd due
 
 -- what is due for `turns`, from a right script and a settled volume
-turns_done : (source : Option (List ℕ)) (source_failed told : Type 0) (content : Image) (left leaves : Image → Type 0) (before now : ℕ) (past since : ℕ → Image → Type 0) (risen : Area → Type 0)
-    (answer : Status) (text bytes : List ℕ) (lines : List Line) → source ≡ Some bytes → IsTurns lines bytes → IsWithinLimits bytes → told → IsSettled content
-    → (source_failed → ⊥) → ((area : Area) → risen area → ⊥) → (answer ≡ status.Sink → ⊥) → TurnsDue source source_failed told content left leaves before now past since risen answer text → IsDoneOrRefused answer
-turns_done source source_failed told content left leaves before now past since risen answer text bytes lines is right limits tells calm source_well well sink_well (all, had, inl (kept, script)) =
+turns_done : (source : Option (List ℕ)) (source_failed : Type 0) (old new : Facts) (answer : Status) (text bytes : List ℕ) (lines : List Line) → source ≡ Some bytes → IsTurns lines bytes → IsWithinLimits bytes
+    → IsTrue old.models_content → IsSettled old.content → (source_failed → ⊥) → ((area : Area) → HasFailed old new area → ⊥) → (answer ≡ status.Sink → ⊥) → TurnsDue source source_failed old new answer text → IsDoneOrRefused answer
+turns_done source source_failed old new answer text bytes lines is right limits models calm source_well well sink_well (all, had, inl (kept, script)) =
     let same : bytes ≡ all = subst (λ (o : Option (List ℕ)). HasLeft o all) is had in
     inl (inr (script_right all lines source_failed answer text (subst (λ (b : List ℕ). IsTurns lines b) same right) (subst IsWithinLimits same limits) source_well script))
-turns_done source source_failed told content left leaves before now past since risen answer text bytes lines is right limits tells calm source_well well sink_well (all, had, inr (read, few, spelled, inl (kept, refused))) =
-    inl (inr (opened told content risen tells well answer text calm refused))
-turns_done source source_failed told content left leaves before now past since risen answer text bytes lines is right limits tells calm source_well well sink_well (all, had, inr (read, few, spelled, inr ran)) =
-    run_done told content risen tells well _ _ read _ answer text sink_well ran.written
+turns_done source source_failed old new answer text bytes lines is right limits models calm source_well well sink_well (all, had, inr (read, few, spelled, inl (kept, refused))) =
+    inl (inr (opened old new models well answer text calm refused))
+turns_done source source_failed old new answer text bytes lines is right limits models calm source_well well sink_well (all, had, inr (read, few, spelled, inr ran)) =
+    run_done old new models well _ _ read _ answer text sink_well ran.written
 
 -- what is due for a command
-due_right : (named : Option Command) (source : Option (List ℕ)) (source_failed told : Type 0) (content : Image) (left leaves : Image → Type 0) (before now : ℕ) (past since : ℕ → Image → Type 0) (risen : Area → Type 0)
-    (answer : Status) (text : List ℕ) → (source_failed → ⊥) → ((area : Area) → risen area → ⊥) → (answer ≡ status.Sink → ⊥)
-    → DueFor named source source_failed told content left leaves before now past since risen answer text → EndsRight named source told content answer
-due_right None source source_failed told content left leaves before now past since risen answer text source_well well sink_well due = due.0
-due_right (Some command.Plain) source source_failed told content left leaves before now past since risen answer text source_well well sink_well due =
+due_right : (named : Option Command) (source : Option (List ℕ)) (source_failed : Type 0) (old new : Facts) (answer : Status) (text : List ℕ) → (source_failed → ⊥) → ((area : Area) → HasFailed old new area → ⊥)
+    → (answer ≡ status.Sink → ⊥) → DueFor named source source_failed old new answer text → EndsRight named source old answer
+due_right None source source_failed old new answer text source_well well sink_well due = due.0
+due_right (Some command.Plain) source source_failed old new answer text source_well well sink_well due =
     λ bytes lines is plain limits. plain_done source source_failed answer text bytes lines is plain limits source_well due
-due_right (Some (command.Create pages)) source source_failed told content left leaves before now past since risen answer text source_well well sink_well due =
-    λ tells unmade. create_done told content risen tells well pages leaves answer text unmade due.texts
-due_right (Some command.Turns) source source_failed told content left leaves before now past since risen answer text source_well well sink_well due =
-    λ bytes lines is right limits tells calm. turns_done source source_failed told content left leaves before now past since risen answer text bytes lines is right limits tells calm source_well well sink_well due
-due_right (Some command.Restart) source source_failed told content left leaves before now past since risen answer text source_well well sink_well due =
-    λ tells calm. restart_done told content risen tells well answer text calm due.texts
+due_right (Some (command.Create pages)) source source_failed old new answer text source_well well sink_well due = λ models unmade. create_done old new models well pages answer text unmade due.texts
+due_right (Some command.Turns) source source_failed old new answer text source_well well sink_well due =
+    λ bytes lines is right limits models calm. turns_done source source_failed old new answer text bytes lines is right limits models calm source_well well sink_well due
+due_right (Some command.Restart) source source_failed old new answer text source_well well sink_well due = λ models calm. restart_done old new models well answer text calm due.texts
 
 -- where the sink does not fail, the text is the one that was due
 not_sunk : (Due : Type 0) (sink : Bool) (sink_failed P : Type 0) → (sink_failed → ⊥) → MatchBool sink (sink_failed × P) Due → (sink ≡ false) × Due
 not_sunk Due true sink_failed P sink_well written = absurd (sink_well written.0)
 not_sunk Due false sink_failed P sink_well written = (refl, written)
 
-pub ends_right : (named : Option Command) (source a b : Option (List ℕ)) (source_failed sink_failed told : Type 0) (content : Image) (left leaves : Image → Type 0)
-    (before now : ℕ) (past since : ℕ → Image → Type 0) (risen : Area → Type 0) (answer : Status)
-    → Answers (DueFor named source source_failed told content left leaves before now past since risen) a b sink_failed answer
-    → (source_failed → ⊥) → (sink_failed → ⊥) → ((area : Area) → risen area → ⊥) → EndsRight named source told content answer
-ends_right named source a b source_failed sink_failed told content left leaves before now past since risen answer answers source_well sink_well well =
-    let due = not_sunk (DueFor named source source_failed told content left leaves before now past since risen answer answers.text) (is_sink answer) sink_failed _ sink_well answers.written in
-    due_right named source source_failed told content left leaves before now past since risen answer answers.text source_well well
+pub ends_right : (named : Option Command) (source a b : Option (List ℕ)) (source_failed sink_failed : Type 0) (old new : Facts) (answer : Status) → Answers (DueFor named source source_failed old new) a b sink_failed answer
+    → (source_failed → ⊥) → (sink_failed → ⊥) → ((area : Area) → HasFailed old new area → ⊥) → EndsRight named source old answer
+ends_right named source a b source_failed sink_failed old new answer answers source_well sink_well well =
+    let due = not_sunk (DueFor named source source_failed old new answer answers.text) (is_sink answer) sink_failed _ sink_well answers.written in
+    due_right named source source_failed old new answer answers.text source_well well
     (λ sunk. true≢false (sym (ap is_sink sunk) ∙ due.0)) due.1

@@ -1,5 +1,5 @@
 -- The definitions of what is due, on examples.
-use Rattle.std.proofs.Common.{◌≡◌, ℕ, ◌≤◌, List, [], ◌∷◌, get_or, length, codes, decimal, Some, None, refl, sym, ap, subst, arith, lit≤}
+use Rattle.std.proofs.Common.{◌≡◌, true, ℕ, ◌≤◌, List, [], ◌∷◌, get_or, length, codes, decimal, Some, None, refl, sym, ap, subst, arith, lit≤}
 use Rattle.std.specs.Fmt.{digits}
 use Rattle.std.proofs.lemmas.Fmt.{decimal_is_IsNumeral, decimal_injective, first_decimal}
 use Rattle.std.proofs.lemmas.Str.Parse.{digit_at}
@@ -10,6 +10,8 @@ use Rattle.rm_script.specs.declared.lines.Which.TheVariants as which
 use Rattle.rm_types.specs.declared.numbers.TheConstants.{MAX_PAGES}
 use Rattle.rm_types.specs.declared.operations.Reply.{Reply}
 use Rattle.rm_types.specs.declared.operations.Reply.TheVariants as reply
+use Rattle.rm_outside.specs.Images.{Image}
+use Rattle.rm_outside.specs.Calls.{Facts}
 use Rattle.rm_master.specs.Fresh.{IsFresh}
 use Rattle.rm_command.specs.declared.commands.Command.TheVariants as command
 use Rattle.rm_command.specs.declared.statuses.Status.{Status}
@@ -85,7 +87,7 @@ by_areas :
     × Tells (status.Volume area.Copy) 4 (codes "error 4 volume copy\n")
 by_areas = ((refl, refl), (refl, refl), (refl, refl), (refl, refl), (refl, refl))
 
--- and with a number behind the words
+-- and with a number after the words
 by_numbers :
     Tells (status.BadScript 100) 3 (codes "error 3 script line 100\n")
     × Tells (status.Damaged area.Log 64) 9 (codes "error 9 damaged log 64\n")
@@ -94,16 +96,29 @@ by_numbers :
 unfolding digits
 by_numbers = ((refl, refl), (refl, refl), (refl, refl), (refl, refl))
 
+-- a volume with this content, of which a crash leaves that alone
+abbrev volume_of : Image → Facts
+volume_of content = record {
+  content = content;
+  may_leave = λ c. c ≡ content;
+  moment = 0;
+  left_since = λ t c. c ≡ content;
+  faults = λ area. 0;
+  data_reads = 0;
+  log_reads = 0;
+  models_content = true;
+}
+
 -- `create` is done over areas of zeros; over the volume that it made it is not, and says so
-create_done : CreateText 1 (Unit {0}) (λ any k. 0) (λ c. c ≡ made) (λ any. ⊥) status.Done (codes "created 1\n")
+create_done : CreateText 1 (volume_of (λ any k. 0)) (volume_of made) status.Done (codes "created 1\n")
 unfolding digits
-create_done = (λ told is. omega (arith, is), λ c is. subst (IsFresh 1) (sym is) made_fresh, refl)
+create_done = (λ models is. omega (arith, is), λ c is. subst (IsFresh 1) (sym is) made_fresh, refl)
 
-create_again : CreateText 1 (Unit {0}) made (λ c. c ≡ made) (λ any. ⊥) status.AlreadyMade (codes "error 8 already made\n")
-create_again = (λ told. refl, refl)
+create_again : CreateText 1 (volume_of made) (volume_of made) status.AlreadyMade (codes "error 8 already made\n")
+create_again = (λ models. refl, refl)
 
-not_again : (text : List ℕ) → CreateText 1 (Unit {0}) made (λ c. c ≡ made) (λ any. ⊥) status.Done text → ⊥
-not_again text due = due.0 tt refl
+not_again : (text : List ℕ) → CreateText 1 (volume_of made) (volume_of made) status.Done text → ⊥
+not_again text due = due.0 refl refl
 
 -- a commit that is asked next counts, and nothing else does
 asks : (commit_of (Some line.Commit) ≡ 1) × (commit_of (Some line.Begin) ≡ 0) × (commit_of None ≡ 0)
@@ -118,10 +133,10 @@ replies = reply.Began (record { 0 = 1 }) ∷ reply.Inserted first ∷ []
 
 -- while it is being committed, an image may lack it or have it
 lacks : HasAsked 0 none lines replies (Some line.Commit) made
-lacks = record { first = record { count = 0; began = lit≤ tt; holds = made_holds }; few = lit≤ tt }
+lacks = record { first = record { count = 0; most = lit≤ tt; holds = made_holds }; few = lit≤ tt }
 
 has : HasAsked 0 none lines replies (Some line.Commit) logged
-has = record { first = record { count = 1; began = lit≤ tt; holds = logged_holds }; few = lit≤ tt }
+has = record { first = record { count = 1; most = lit≤ tt; holds = logged_holds }; few = lit≤ tt }
 
 -- before that none has it
 not_early : HasAsked 0 none lines replies None logged → ⊥

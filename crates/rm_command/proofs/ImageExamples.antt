@@ -1,5 +1,5 @@
 -- Images of a volume of one page, and what they hold.
-use Rattle.std.proofs.Common.{◌≡◌, ℕ, zero, suc, ◌<◌, ◌≤◌, if◌then◌else◌, List, [], ◌∷◌, ◌++◌, get_or, replicate, None, refl, sym, ap, subst, ◌∙◌, arith, lit<, lit≤}
+use Rattle.std.proofs.Common.{◌≡◌, ℕ, zero, suc, ◌<◌, ◌≤◌, if◌then◌else◌, List, [], ◌∷◌, ◌++◌, get_or, replicate, Some, None, refl, sym, ap, subst, ◌∙◌, arith, lit<, lit≤}
 use Rattle.std.specs.Prelude.{nat_lt}
 use Rattle.std.proofs.Math.Dec.{eqb-zero-suc}
 use Rattle.std.specs.List.{AllByRecursion}
@@ -22,6 +22,7 @@ use Rattle.rm_master.specs.Fresh.{IsFresh}
 use Rattle.rm_master.proofs.Writing.{fresh-IsFields}
 use Rattle.rm_history.specs.Acts.{Act, changes, commits}
 use Rattle.rm_history.specs.Contents.{page_of}
+use Rattle.rm_history.specs.Rows.{rows_of_log}
 use Rattle.rm_history.specs.Counts.{commit_count}
 use Rattle.rm_history.specs.Batched.{acts_of_batches}
 use Rattle.rm_history.specs.Logs.{Batch, body_of, HasLog}
@@ -29,14 +30,15 @@ use Rattle.rm_history.proofs.Readings.{log_once}
 use Rattle.rm_restart.specs.Plain.{ArePlain}
 use Rattle.rm_restart.specs.Sound.{IsSoundLog, Holds}
 use Rattle.rm_restart.proofs.PlainLaws.{plain_fits}
-use Rattle.rm_restart.proofs.Soundness.{fresh_is_sound}
-use Rattle.rm_engine.specs.Runs.{HasAcknowledged}
+use Rattle.rm_restart.proofs.Soundness.{fresh_is_sound, plain_image}
+use Rattle.rm_engine.specs.Runs.{rows_after, HasFirst, HasAcknowledged}
+use Rattle.rm_command.specs.Turns.{HasAsked}
 
 -- no rows
 abbrev pub none : Rows
 none = λ rid. None
 
--- a volume that was just made: its master stands in slot 1, and behind the blocks that are cleared anything may stand
+-- a volume that was just made: its master stands in slot 1, and after the blocks that are cleared anything may stand
 abbrev slot : List ℕ
 slot = 0 ∷ 1 ∷ 0 ∷ 0 ∷ 0 ∷ 1 ∷ replicate 30 0
 
@@ -74,7 +76,7 @@ made_holds = (fresh_is_sound 1 made made_fresh).0
 
 pub made_count : (count : ℕ) (rows : Rows) → Holds count rows made → count ≡ 0
 made_count count rows held =
-    let same : held.sound.batches ≡ [] = log_once (made area.Log) held.sound.batches [] held.sound.image.log (record { stands = tt; closed = made_fresh.cleared.gate }) in
+    let same : held.image.batches ≡ [] = log_once (made area.Log) held.image.batches [] held.image.sound.has_log (record { stands = tt; closed = made_fresh.cleared.gate }) in
     sym held.commits_are ∙ ap (λ (batches : List Batch). commit_count (acts_of_batches batches)) same
 
 -- the same volume with a log of one batch: a transaction inserted a row and committed
@@ -135,41 +137,46 @@ inserted = (record { row = row; before_is = refl; after_is = refl }, tt)
 
 logged_sound : IsSoundLog 1 (batch ∷ [])
 logged_sound = record {
-  in_order = (
+  rules = (
     (
-      tt,
-      record {
-        above = lit< tt;
-        may_come = record { unfinished = λ is. is; held = refl; others = λ other differs has. absurd has; under_is = refl; need_is = refl };
-        fits = plain_fits (insert ∷ []) inserted fits;
-      },
+      (
+        tt,
+        record {
+          above = lit< tt;
+          may_come = record { unfinished = λ is. is; held = refl; others = λ other differs has. absurd has; under_is = refl; need_is = refl };
+          fits = plain_fits (insert ∷ []) inserted fits;
+        },
+      ),
+      record { above = lit< tt; may_come = λ is. is; fits = plain_fits (commit ∷ insert ∷ []) (tt, inserted) fits },
     ),
-    record { above = lit< tt; may_come = λ is. is; fits = plain_fits (commit ∷ insert ∷ []) (tt, inserted) fits },
+    (tt, inserted),
   );
-  plain = (tt, inserted);
   below = (tt, (lit< tt, tt));
   room = lit≤ tt;
 }
 
--- it holds that commit and its row, and no other number of commits
+-- it holds that commit and its row, and no other number of commits or other rows
 pub logged_holds : Holds 1 (with_row none first row) logged
 logged_holds = record {
-  sound = record {
-    pages = 1;
-    batches = batch ∷ [];
-    image = record { fields = fresh_fields 1; master = made_fresh.fields; size = refl; checkpoint = refl; log = logged_has_log };
-    sound_log = logged_sound;
-  };
+  image = plain_image 1 (batch ∷ []) logged
+      (record { fields = fresh_fields 1; master = made_fresh.fields; size = refl; checkpoint = refl; half = refl; log = logged_has_log })
+      logged_sound;
   commits_are = refl;
   rows_are = refl;
 }
 
+logged_batches : (count : ℕ) (rows : Rows) (held : Holds count rows logged) → held.image.batches ≡ batch ∷ []
+logged_batches count rows held = log_once (logged area.Log) held.image.batches (batch ∷ []) held.image.sound.has_log logged_has_log
+
 pub logged_count : (count : ℕ) (rows : Rows) → Holds count rows logged → count ≡ 1
 logged_count count rows held =
-    let same : held.sound.batches ≡ batch ∷ [] = log_once (logged area.Log) held.sound.batches (batch ∷ []) held.sound.image.log logged_has_log in
-    sym held.commits_are ∙ ap (λ (batches : List Batch). commit_count (acts_of_batches batches)) same
+    sym held.commits_are ∙ ap (λ (batches : List Batch). commit_count (acts_of_batches batches)) (logged_batches count rows held)
 
--- behind a run that was told of its commit the image with it may be left, and the one without it may not
+logged_rows : (count : ℕ) (rows : Rows) → Holds count rows logged → rows ≡ with_row none first row
+logged_rows count rows held =
+    sym held.rows_are ∙ ap (λ (batches : List Batch). rows_of_log (acts_of_batches batches)) (logged_batches count rows held)
+
+-- after a run with an acknowledged commit the image with it may be left, and the one without it may not
 abbrev lines : List Line
 lines = line.Begin ∷ line.Insert 0 row ∷ line.Commit ∷ []
 
@@ -177,7 +184,27 @@ abbrev replies : List Reply
 replies = reply.Began (record { 0 = 1 }) ∷ reply.Inserted first ∷ reply.Committed ∷ []
 
 kept : HasAcknowledged 0 none lines replies logged
-kept = record { first = record { count = 1; began = lit≤ tt; holds = logged_holds }; all = lit≤ tt }
+kept = record { first = record { count = 1; most = lit≤ tt; holds = logged_holds }; all = lit≤ tt }
 
 not_forgotten : HasAcknowledged 0 none lines replies made → ⊥
 not_forgotten has = omega (arith, has.all, made_count _ _ has.first.holds)
+
+-- of no transaction that was neither acknowledged nor open the commit is left, even where the next line is a commit
+not_from_nowhere : HasAsked 0 none [] [] (Some line.Commit) logged → ⊥
+not_from_nowhere has = omega (arith, has.first.most, logged_count _ _ has.first.holds)
+
+-- of two commits the earlier comes first: an image with the row of the later one alone is not left
+abbrev two_lines : List Line
+two_lines = line.Begin ∷ line.Insert 1 row ∷ line.Commit ∷ line.Begin ∷ line.Insert 0 row ∷ line.Commit ∷ []
+
+abbrev two_replies : List Reply
+two_replies = reply.Began (record { 0 = 1 }) ∷ reply.Inserted (record { page = 0; slot = 1 }) ∷ reply.Committed
+    ∷ reply.Began (record { 0 = 2 }) ∷ reply.Inserted first ∷ reply.Committed ∷ []
+
+not_the_later : HasFirst 0 none two_lines two_replies logged → ⊥
+not_the_later has =
+    let one : has.count ≡ 1 = omega (arith, logged_count _ _ has.holds) in
+    let rows : rows_after two_lines two_replies 1 none ≡ with_row none first row =
+    subst (λ (n : ℕ). rows_after two_lines two_replies n none ≡ with_row none first row) one (logged_rows _ _ has.holds) in
+    let row_there : None ≡ Some row = ap (λ (r : Rows). r first) rows in
+    cc

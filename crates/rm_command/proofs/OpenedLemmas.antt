@@ -1,30 +1,28 @@
 -- What is due for the lines of a script, on a volume that was opened.
-use Rattle.std.proofs.Common.{◌≡◌, inl, inr, ℕ, Bool, true, false, List, [], ◌++◌, Option, Result, Err, sym, ap, ◌∙◌, subst, append_assoc, append-nil}
+use Rattle.std.proofs.Common.{◌≡◌, inl, inr, ℕ, Bool, true, false, List, [], ◌++◌, Option, IsTrue, sym, ap, ◌∙◌, subst, append_assoc, append-nil}
 use Rattle.std.specs.Prelude.{MatchBool}
 use Rattle.rm_types.specs.declared.areas.Area.{Area}
-use Rattle.rm_types.specs.declared.faults.Fault.TheVariants as fault
 use Rattle.rm_script.specs.declared.lines.Line.{Line}
 use Rattle.rm_types.specs.declared.slots.Slot.{Slot}
 use Rattle.rm_types.specs.declared.numbers.TheConstants.{MAX_LOG}
-use Rattle.rm_types.specs.declared.numbers.TxnId.{TxnId}
 use Rattle.rm_types.specs.declared.operations.Reply.{Reply}
-use Rattle.rm_outside.specs.Faults.{Rises}
 use Rattle.rm_outside.specs.Images.{Image}
-use Rattle.rm_outside.specs.Moments.{LeavesOnly, joined, weaker}
+use Rattle.rm_outside.specs.Moments.{joined, weaker}
+use Rattle.rm_outside.specs.Calls.{AllLeft, Facts, HasFailed, LeavesContent, Reading}
+use Rattle.rm_outside.proofs.FaultLemmas.{Rises-before}
 use Rattle.rm_outside.specs.Streams.{Takes}
 use Rattle.rm_outside.proofs.StreamLemmas.{Takes-append}
 use Rattle.rm_model.specs.Object.{Rows}
 use Rattle.rm_session.specs.Session.{State, opened}
-use Rattle.rm_master.specs.Slots.{IsUnmade}
 use Rattle.rm_history.specs.Logs.{Batch}
 use Rattle.rm_history.specs.Rows.{rows_of_log}
 use Rattle.rm_history.specs.Counts.{commit_count}
 use Rattle.rm_history.specs.Batched.{acts_of_batches}
 use Rattle.rm_wal.specs.Tails.{LogValue}
-use Rattle.rm_restart.specs.Opening.{Opens, NeedsUndoOf, IsDamage}
-use Rattle.rm_restart.specs.Sound.{IsImageOf, IsSound}
+use Rattle.rm_restart.specs.Opening.{Opens}
+use Rattle.rm_restart.specs.Outcomes.{Explains}
+use Rattle.rm_restart.specs.Sound.{IsImageOf, IsPlainImage}
 use Rattle.rm_restart.specs.declared.faults.RestartFault.{RestartFault}
-use Rattle.rm_restart.specs.declared.faults.RestartFault.TheVariants as restart
 use Rattle.rm_restart.proofs.Soundness.{opened_is_sound}
 use Rattle.rm_engine.specs.declared.engine.Engine.{Engine}
 use Rattle.rm_engine.specs.Numbers.{Used, used_of}
@@ -35,7 +33,7 @@ use Rattle.rm_command.specs.declared.statuses.Status.TheVariants as status
 use Rattle.rm_command.specs.Status.{error_line, of_restart}
 use Rattle.rm_command.specs.Running.{Moves}
 use Rattle.rm_command.specs.Told.{Begins, is_sink, Owes}
-use Rattle.rm_command.specs.Turns.{RunTo, RunText, HasRunImages, LinesDue}
+use Rattle.rm_command.specs.Turns.{RunTo, RunText, HasRunImages, LeavesSound, LinesDue}
 use Rattle.rm_command.specs.Turning.{used_by, LeavesRun, Gathers}
 use Rattle.rm_command.proofs.VolumeLemmas.{owes_line, refused}
 
@@ -79,37 +77,32 @@ at_engine engine pages next log file_pages count rows left session log_is under 
     (subst (λ (l : LogValue). IsAt file_pages count rows engine.session.core l 0 0 left) (sym log_is)
     (subst (λ (s : State). IsAt file_pages count rows s.core log 0 0 left) (sym session) at)))
 
-module _ (told : Type 0) (content : Image) (left half_left leaves : Image → Type 0) (before mid now : ℕ) (past half since : ℕ → Image → Type 0) (risen later : Area → Type 0) (lines : List Line)
-    (pages : List (List Slot)) (next : ℕ) (log : LogValue) (inserted : ℕ) (engine : Engine) (opens : Opens told content MAX_LOG pages next log inserted)
+module _ (old mid new : Facts) (lines : List Line) (pages : List (List Slot)) (next : ℕ) (log : LogValue) (inserted : ℕ) (engine : Engine)
+    (opens : Opens (IsTrue old.models_content) old.content MAX_LOG pages next log inserted)
     (session : engine.session ≡ opened pages next) (log_is : engine.log ≡ log) (under : engine.under.0 ≡ 0) (inserts : engine.inserts ≡ 0)
-    (synced : (c : Image) → half_left c → c ≡ content) (time : LeavesOnly before mid past half left) (then_risen : (area : Area) → risen area → later area) where
+    (synced : LeavesContent mid) (opening : Reading false true old mid) where
   -- from a sound content on the images are those of the run
-  run_images : (done : List Line) (replies : List Reply) (asked : Option Line) → LeavesRun engine half_left leaves mid now half since done replies asked → told → (sound : IsSound content)
-      → HasRunImages (commit_count (acts_of_batches sound.batches)) (rows_of_log (acts_of_batches sound.batches)) left leaves before now past since done replies asked
-  run_images done replies asked leaves_run tells sound =
-      let read = opened_is_sound told content MAX_LOG pages next log inserted opens tells sound in
-      let at = at_opened told content MAX_LOG pages next log inserted opens half_left read.sound_log (λ c may. subst (λ (image : Image). IsImageOf opens.fields.pages opens.batches image) (sym (synced c may)) read.image) in
-      let standing = at_engine engine pages next log opens.fields.pages (commit_count (acts_of_batches opens.batches)) (rows_of_log (acts_of_batches opens.batches)) half_left session log_is under inserts at in
+  run_images : (done : List Line) (replies : List Reply) (asked : Option Line) → LeavesRun engine mid new done replies asked → LeavesSound old new done replies asked
+  run_images done replies asked leaves_run models image =
+      let read = opened_is_sound (IsTrue old.models_content) old.content MAX_LOG pages next log inserted opens models image in
+      let at = at_opened (IsTrue old.models_content) old.content MAX_LOG pages next log inserted opens mid.may_leave read.sound_log
+          (λ c may. subst (λ (image : Image). IsImageOf opens.fields.pages opens.batches image) (sym (synced c may ∙ opening.content)) read.image_of) in
+      let standing = at_engine engine pages next log opens.fields.pages (commit_count (acts_of_batches opens.batches)) (rows_of_log (acts_of_batches opens.batches)) mid.may_leave session log_is under inserts at in
       let idle : engine.session.core.active ≡ false = ap (λ (s : State). s.core.active) session in
       let run = leaves_run opens.fields.pages (commit_count (acts_of_batches opens.batches)) (rows_of_log (acts_of_batches opens.batches)) standing idle in
-      subst (λ (b : List Batch). HasRunImages (commit_count (acts_of_batches b)) (rows_of_log (acts_of_batches b)) left leaves before now past since done replies asked) (sym read.batches_are)
-      (record { any_moment = joined (weaker time (λ c l. inl l)) (weaker run.0 (λ c has. inr has)); durable = run.1 })
+      subst (λ (b : List Batch). HasRunImages (commit_count (acts_of_batches b)) (rows_of_log (acts_of_batches b)) old new done replies asked) (sym read.batches_are)
+      (record { any_moment = joined (weaker opening.time (λ c l. inl l)) (weaker run.0 (λ c has. inr has)); durable = run.1 })
 
-  abbrev Leaves : List Line → List Reply → Option Line → Type 0
-  Leaves done replies asked = told → (sound : IsSound content)
-      → HasRunImages (commit_count (acts_of_batches sound.batches)) (rows_of_log (acts_of_batches sound.batches)) left leaves before now past since done replies asked
-
-  pub lines_due : (answer : Status) (text : List ℕ) → RunText engine.session (used_by engine) lines (LeavesRun engine half_left leaves mid now half since) risen answer text
-      → LinesDue told content left leaves before now past since later lines answer text
+  pub lines_due : (answer : Status) (text : List ℕ) → RunText engine.session (used_by engine) lines (LeavesRun engine mid new) (HasFailed mid new) answer text → LinesDue old new lines answer text
   lines_due answer text due = let uses : used_by engine ≡ used_of log 0 = ap (λ (l : LogValue). used_of l engine.inserts) log_is ∙ ap (used_of log) inserts in inr (record {
     pages = pages;
     next = next;
     log = log;
     inserted = inserted;
     opens = opens;
-    written = subst (λ (s : State). RunText s (used_of log 0) lines Leaves later answer text) session
-        (subst (λ (u : Used). RunText engine.session u lines Leaves later answer text) uses
-        (run_text_more engine.session (used_by engine) lines _ _ risen later run_images then_risen answer text due));
+    written = subst (λ (s : State). RunText s (used_of log 0) lines (LeavesSound old new) (HasFailed old new) answer text) session
+        (subst (λ (u : Used). RunText engine.session u lines (LeavesSound old new) (HasFailed old new) answer text) uses
+        (run_text_more engine.session (used_by engine) lines _ _ (HasFailed mid new) (HasFailed old new) run_images (λ area. Rises-before _ _ _ (opening.counts.faults area)) answer text due));
   })
 
 -- What was gathered was due, so it is due for more.
@@ -170,15 +163,7 @@ module _ (Due More : Status → List ℕ → Type 0) (a b : Option (List ℕ)) (
         );
       }
 
-module _ {T : Type 0} (told : Type 0) (content : Image) (left leaves : Image → Type 0) (before now : ℕ) (past since : ℕ → Image → Type 0) (was is : Area → ℕ) (lines : List Line) (a : Option (List ℕ)) (sink_failed : Type 0) (result : Result T RestartFault) where
-  -- the volume was not opened
-  pub owes_unopened : (why : RestartFault) → result ≡ Err why
-      → (result ≡ Err restart.NotMade → told → IsUnmade content)
-      → ((area : Area) (at : ℕ) → result ≡ Err (restart.Fault (fault.Damaged area at)) → told → IsDamage content area at)
-      → ((area : Area) (at : ℕ) → result ≡ Err (restart.Fault (fault.Damaged area at)) → told → IsUnmade content → ⊥)
-      → ((txn : TxnId) → result ≡ Err (restart.NeedsUndo txn) → NeedsUndoOf told content txn.0)
-      → ((area : Area) → result ≡ Err (restart.Fault (fault.Volume area)) → Rises (was area) (is area))
-      → LeavesOnly before now past since left
-      → Owes (LinesDue told content left leaves before now past since (λ area. Rises (was area) (is area)) lines) a a sink_failed (of_restart why)
-  owes_unopened why is_err not_made damaged made needs_undo cause images =
-      owes_line (LinesDue told content left leaves before now past since (λ area. Rises (was area) (is area)) lines) a sink_failed why (inl (images, refused told content was is result why is_err not_made damaged made needs_undo cause))
+-- the volume was not opened
+pub owes_unopened : (old new : Facts) (lines : List Line) (a : Option (List ℕ)) (sink_failed : Type 0) (why : RestartFault) → Explains old new why → AllLeft old new old.may_leave
+    → Owes (LinesDue old new lines) a a sink_failed (of_restart why)
+owes_unopened old new lines a sink_failed why cause images = owes_line (LinesDue old new lines) a sink_failed why (inl (images, refused old new why cause))

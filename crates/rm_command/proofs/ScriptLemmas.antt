@@ -1,11 +1,11 @@
 -- What is due for `turns`, by how far its script was read.
 use Rattle.std.proofs.Common.{ℕ, Bool, true, false, List, [], Option, refl, inl, inr}
 use Rattle.std.specs.Prelude.{MatchBool}
-use Rattle.rm_types.specs.declared.areas.Area.{Area}
 use Rattle.rm_script.specs.declared.lines.Line.{Line}
 use Rattle.rm_script.specs.Grammar.{IsTurns, IsWithinLimits}
 use Rattle.rm_outside.specs.Images.{Image}
-use Rattle.rm_outside.specs.Moments.{LeavesOnly, started}
+use Rattle.rm_outside.specs.Moments.{started}
+use Rattle.rm_outside.specs.Calls.{AllLeft, Facts}
 use Rattle.rm_outside.proofs.StreamLemmas.{Takes-none}
 use Rattle.rm_script.specs.Refusals.{RefusesTurns}
 use Rattle.rm_script.specs.declared.refused.ScriptRefused.{ScriptRefused}
@@ -18,13 +18,13 @@ use Rattle.rm_command.specs.Told.{Begins, is_sink, Owes}
 use Rattle.rm_command.specs.Turns.{LinesDue, TurnsDue}
 use Rattle.rm_command.proofs.PlainLemmas.{some_left, all_read, too_much}
 
-module _ (source a : Option (List ℕ)) (source_failed sink_failed told : Type 0) (content : Image) (left : Image → Type 0) (now : ℕ) (past : ℕ → Image → Type 0) (risen : Area → Type 0) where
-  module _ (leaves : Image → Type 0) (only_now : (c : Image) → past now c → left c) where
+module _ (source a : Option (List ℕ)) (source_failed sink_failed : Type 0) (volume : Facts) where
+  module _ (only_now : (c : Image) → volume.left_since volume.moment c → volume.may_leave c) where
     abbrev Due : Status → Type 0
-    Due answer = Owes (TurnsDue source source_failed told content left leaves now now past past risen) a a sink_failed answer
+    Due answer = Owes (TurnsDue source source_failed volume volume) a a sink_failed answer
 
-    untouched : LeavesOnly now now past past left
-    untouched = started now past left only_now
+    untouched : AllLeft volume volume volume.may_leave
+    untouched = started _ _ _ only_now
 
     -- the source failed
     pub owes_source : source_failed → Due status.Source
@@ -56,12 +56,11 @@ lines_written More Due true sink_failed answer text then_due written =
     (written.0, (due.0, due.1, then_due due.0 due.1 due.2, due.3))
 lines_written More Due false sink_failed answer text then_due written = then_due answer text written
 
-pub owes_lines : (source a b after : Option (List ℕ)) (source_failed sink_failed told : Type 0) (content : Image) (left leaves : Image → Type 0) (before now : ℕ) (past since : ℕ → Image → Type 0) (risen : Area → Type 0) (bytes : List ℕ) (lines : List Line) (answer : Status)
-    → Reads source after bytes → IsWithinLimits bytes → IsTurns lines bytes → Owes (LinesDue told content left leaves before now past since risen lines) a b sink_failed answer
-    → Owes (TurnsDue source source_failed told content left leaves before now past since risen) a b sink_failed answer
-owes_lines source a b after source_failed sink_failed told content left leaves before now past since risen bytes lines answer reads limits turns owes = record {
+pub owes_lines : (source a b after : Option (List ℕ)) (source_failed sink_failed : Type 0) (old new : Facts) (bytes : List ℕ) (lines : List Line) (answer : Status)
+    → Reads source after bytes → IsWithinLimits bytes → IsTurns lines bytes → Owes (LinesDue old new lines) a b sink_failed answer → Owes (TurnsDue source source_failed old new) a b sink_failed answer
+owes_lines source a b after source_failed sink_failed old new bytes lines answer reads limits turns owes = record {
   text = owes.text;
   took = owes.took;
-  written = lines_written (LinesDue told content left leaves before now past since risen lines) (TurnsDue source source_failed told content left leaves before now past since risen) (is_sink answer) sink_failed answer _
+  written = lines_written (LinesDue old new lines) (TurnsDue source source_failed old new) (is_sink answer) sink_failed answer _
       (λ s t due. (bytes, all_read source after bytes reads limits.few_bytes, inr (lines, limits, turns, due))) owes.written;
 }

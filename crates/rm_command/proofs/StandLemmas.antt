@@ -1,78 +1,89 @@
--- Where a session stands behind its lines, and what its images have.
-use Rattle.std.proofs.Common.{inl, inr, ℕ, ◌+◌, ◌≤◌, List, [], ◌∷◌, ◌++◌, Option, Some, arith}
+-- Where a session stands after its lines, and what its images have.
+use Rattle.std.proofs.Common.{◌≡◌, inl, inr, ℕ, ◌+◌, ◌≤◌, List, [], ◌∷◌, ◌++◌, Option, Some, refl, arith}
 use Rattle.rm_script.specs.declared.lines.Line.{Line}
 use Rattle.rm_script.specs.declared.lines.Line.TheVariants as line
 use Rattle.rm_types.specs.declared.operations.Reply.{Reply}
 use Rattle.rm_outside.specs.Images.{Image}
-use Rattle.rm_outside.specs.Moments.{LeavesOnly, started, joined, weaker}
+use Rattle.rm_outside.specs.Moments.{started, joined, weaker}
+use Rattle.rm_outside.specs.Calls.{AllLeft, Facts}
 use Rattle.rm_model.specs.Object.{Rows}
 use Rattle.rm_model.specs.Files.{rows_of}
 use Rattle.rm_session.specs.Session.{Core, Step}
-use Rattle.rm_wal.specs.Tails.{LogValue}
 use Rattle.rm_engine.specs.declared.engine.Engine.{Engine}
-use Rattle.rm_engine.specs.At.{IsAt, LeftByTurn, count_after, committed_after}
-use Rattle.rm_engine.specs.Runs.{acknowledged, rows_after, IsWithin, IsAfter}
+use Rattle.rm_engine.specs.At.{IsAt, IsCommitOf, LeftByTurn, count_after, committed_after}
+use Rattle.rm_engine.specs.Runs.{acknowledged, rows_after, ShowsRun, IsWithin}
 use Rattle.rm_engine.proofs.Changed.{changes}
-use Rattle.rm_engine.proofs.After.{after_step}
-use Rattle.rm_engine.proofs.Behind.{within_stays}
-use Rattle.rm_engine.proofs.RunImages.{within_now, acknowledged_now, busy_first, acknowledged_left, within_left, opened_after}
-use Rattle.rm_command.specs.Turns.{HasAsked}
-use Rattle.rm_command.specs.Turning.{StandsBehind, LeavesRun}
+use Rattle.rm_engine.proofs.Flushes.{holds_now}
+use Rattle.rm_engine.proofs.GoingOn.{after_step}
+use Rattle.rm_engine.proofs.RunImages.{first_now, first_open, commit_open, within_now, within_stays, within_left}
+use Rattle.rm_engine.proofs.RunImages.{acknowledged_now, acknowledged_left, opened_after}
+use Rattle.rm_command.specs.Turns.{commit_of, HasAsked}
+use Rattle.rm_command.specs.Turning.{StandsAfter, LeavesRun}
 
--- no more than was acknowledged is no more than was asked for
-asked_within : (count : ℕ) (rows : Rows) (lines : List Line) (replies : List Reply) (next : Option Line) (c : Image) → IsWithin count rows lines replies c → HasAsked count rows lines replies next c
-asked_within count rows lines replies next c within = record { first = within.first; few = omega (arith, within.few) }
+module _ (count : ℕ) (rows : Rows) (lines : List Line) (replies : List Reply) where
+  -- no more than was acknowledged is no more than was asked for
+  asked_within : (next : Option Line) (c : Image) → IsWithin count rows lines replies c → HasAsked count rows lines replies next c
+  asked_within next c within = record { first = within.first; few = omega (arith, within.few) }
 
-module _ (pages count : ℕ) (rows : Rows) (lines : List Line) (replies : List Reply) (log : LogValue) (under inserts : ℕ) (left : Image → Type 0) (core : Core) (after : IsAfter pages count rows lines replies core log under inserts left) where
+  commit_asked : (core : Core) (asked : Line) → IsCommitOf core asked → commit_of (Some asked) ≡ 1
+  commit_asked core line.Commit commits = refl
+  commit_asked core asked commits = absurd commits
+
   -- what a turn may leave was asked for
-  asked_left : (asked : Line) (c : Image) → LeftByTurn (count + acknowledged replies) (rows_after lines replies (acknowledged replies) rows) core asked c → HasAsked count rows lines replies (Some asked) c
-  asked_left asked c (inl holds) = record {
-    first = record { count = acknowledged replies; began = omega (arith, after.behind.begun); holds = holds };
-    few = omega arith;
-  }
-  asked_left line.Begin c (inr one) = absurd one.0
-  asked_left (line.Insert name row) c (inr one) = absurd one.0
-  asked_left (line.Read read) c (inr one) = absurd one.0
-  asked_left line.Commit c (inr one) =
-      let has = busy_first pages count rows lines replies log under inserts left core after one.0 c one.1 in
-      record { first = has.0; few = omega (arith, has.1) }
+  asked_left : (core : Core) → ShowsRun rows lines replies core → (asked : Line) (c : Image)
+      → LeftByTurn (count + acknowledged replies) (rows_after lines replies (acknowledged replies) rows) core asked c
+      → HasAsked count rows lines replies (Some asked) c
+  asked_left core shows asked c (inl holds) = record { first = first_now count rows lines replies c holds; few = omega arith }
+  asked_left core shows asked c (inr one) =
+      let has = first_open count rows lines replies core shows c (commit_open core asked one.0) one.1 in
+      record { first = has.0; few = omega (arith, has.1, commit_asked core asked one.0) }
 
 -- before the first line
-pub stands_none : (from : Engine) (left : Image → Type 0) (now : ℕ) (past : ℕ → Image → Type 0) → ((c : Image) → past now c → left c) → StandsBehind from from left left now now past past [] []
-stands_none from left now past only_now = λ pages count rows at idle.
-    let after = opened_after pages count rows from.session.core from.log from.under.0 from.inserts left idle at in
-    (after, started now past _ (λ c then. within_now pages count rows [] [] from.log from.under.0 from.inserts left from.session.core after c (only_now c then)))
+pub stands_none : (from : Engine) (volume : Facts) → ((c : Image) → volume.left_since volume.moment c → volume.may_leave c)
+    → StandsAfter from from volume volume [] []
+stands_none from volume only_now = λ pages count rows at idle.
+    let after = opened_after pages count rows from.session.core from.log from.under.0 from.inserts volume.may_leave idle at in
+    (after, started _ _ _ (λ c then. within_now count rows [] [] c (holds_now _ _ _ _ _ _ _ _ after.at c (only_now c then))))
 
-module _ (from here : Engine) (left leaves : Image → Type 0) (before mid : ℕ) (past half : ℕ → Image → Type 0) (lines : List Line) (replies : List Reply) (stands : StandsBehind from here left leaves before mid past half lines replies) where
+module _ (from here : Engine) (old mid : Facts) (lines : List Line) (replies : List Reply) (stands : StandsAfter from here old mid lines replies) where
   -- one line more
-  pub stands_more : (next : Engine) (later : Image → Type 0) (now : ℕ) (since : ℕ → Image → Type 0) (asked : Line) (told : Reply) → Step here.session asked told next.session
-      → ((pages count : ℕ) (rows : Rows) → IsAt pages count rows here.session.core here.log here.under.0 here.inserts leaves
-      → IsAt pages (count_after told count) (committed_after told (rows_of here.session.core.pages) rows) next.session.core next.log next.under.0 next.inserts later)
-      → ((pages count : ℕ) (rows : Rows) → IsAt pages count rows here.session.core here.log here.under.0 here.inserts leaves → LeavesOnly mid now half since (LeftByTurn count rows here.session.core asked))
-      → StandsBehind from next left later before now past since (lines ++ asked ∷ []) (replies ++ told ∷ [])
-  stands_more next later now since asked told step at any = λ pages count rows at_start idle.
-      let behind = stands pages count rows at_start idle in
-      let after = behind.0 in
-      let changed = changes here.session next.session asked told step in (
-        after_step pages count rows lines replies here.session.core next.session.core here.log next.log here.under.0 next.under.0 here.inserts next.inserts leaves later after asked told changed (at pages _ _ after.at),
+  pub stands_more : (next : Engine) (new : Facts) (asked : Line) (answer : Reply) → Step here.session asked answer next.session
+      → ((pages count : ℕ) (rows : Rows) → IsAt pages count rows here.session.core here.log here.under.0 here.inserts mid.may_leave
+      → IsAt pages (count_after answer count) (committed_after answer (rows_of here.session.core.pages) rows)
+      next.session.core next.log next.under.0 next.inserts new.may_leave)
+      → ((pages count : ℕ) (rows : Rows) → IsAt pages count rows here.session.core here.log here.under.0 here.inserts mid.may_leave
+      → AllLeft mid new (LeftByTurn count rows here.session.core asked))
+      → StandsAfter from next old new (lines ++ asked ∷ []) (replies ++ answer ∷ [])
+  stands_more next new asked answer step at any = λ pages count rows at_start idle.
+      let stood = stands pages count rows at_start idle in
+      let after = stood.0 in
+      let changed = changes here.session next.session asked answer step in (
+        after_step pages count rows lines replies here.session.core next.session.core here.log next.log here.under.0 next.under.0
+            here.inserts next.inserts mid.may_leave new.may_leave after asked answer changed (at pages _ _ after.at),
         joined
-            (weaker behind.1 (within_stays rows lines replies here.session.core next.session.core asked told after.same after.behind changed count))
-            (weaker (any pages _ _ after.at) (within_left pages count rows lines replies here.log here.under.0 here.inserts leaves here.session next.session after asked told step)),
+            (weaker stood.1 (within_stays count rows lines replies asked answer after.same))
+            (weaker (any pages _ _ after.at)
+            (within_left count rows lines replies here.session next.session asked answer step after.same after.shows)),
       )
 
   -- between two lines
-  pub leaves_now : (next : Option Line) → LeavesRun from left leaves before mid past half lines replies next
+  pub leaves_now : (next : Option Line) → LeavesRun from old mid lines replies next
   leaves_now next = λ pages count rows at_start idle.
-      let behind = stands pages count rows at_start idle in
-      (weaker behind.1 (asked_within count rows lines replies next), acknowledged_now pages count rows lines replies here.log here.under.0 here.inserts leaves here.session.core behind.0)
+      let stood = stands pages count rows at_start idle in (
+        weaker stood.1 (asked_within count rows lines replies next),
+        λ c now. acknowledged_now count rows lines replies c (holds_now _ _ _ _ _ _ _ _ stood.0.at c now),
+      )
 
-  -- behind a turn that was not made
-  pub leaves_failed : (later : Image → Type 0) (now : ℕ) (since : ℕ → Image → Type 0) (asked : Line) → ((c : Image) → later c → mid ≤ now → since mid c)
-      → ((pages count : ℕ) (rows : Rows) → IsAt pages count rows here.session.core here.log here.under.0 here.inserts leaves → LeavesOnly mid now half since (LeftByTurn count rows here.session.core asked))
-      → LeavesRun from left later before now past since lines replies (Some asked)
-  leaves_failed later now since asked counts any = λ pages count rows at_start idle.
-      let behind = stands pages count rows at_start idle in
-      let turn = any pages _ _ behind.0.at in (
-        joined (weaker behind.1 (asked_within count rows lines replies (Some asked))) (weaker turn (asked_left pages count rows lines replies here.log here.under.0 here.inserts leaves here.session.core behind.0 asked)),
-        λ c may. acknowledged_left pages count rows lines replies here.log here.under.0 here.inserts leaves here.session.core behind.0 asked c (turn.each c (counts c may turn.later)),
+  -- after a turn that was not made
+  pub leaves_failed : (new : Facts) (asked : Line) → ((c : Image) → new.may_leave c → mid.moment ≤ new.moment → new.left_since mid.moment c)
+      → ((pages count : ℕ) (rows : Rows) → IsAt pages count rows here.session.core here.log here.under.0 here.inserts mid.may_leave
+      → AllLeft mid new (LeftByTurn count rows here.session.core asked))
+      → LeavesRun from old new lines replies (Some asked)
+  leaves_failed new asked counts any = λ pages count rows at_start idle.
+      let stood = stands pages count rows at_start idle in
+      let turn = any pages _ _ stood.0.at in (
+        joined
+            (weaker stood.1 (asked_within count rows lines replies (Some asked)))
+            (weaker turn (asked_left count rows lines replies here.session.core stood.0.shows asked)),
+        λ c may. acknowledged_left count rows lines replies here.session.core stood.0.shows asked c (turn.each c (counts c may turn.later)),
       )

@@ -1,17 +1,12 @@
 -- What is due at each exit of the commands that make a volume and open it.
-use Rattle.std.proofs.Common.{◌≡◌, ℕ, Bool, false, List, [], ◌++◌, take, drop, Option, Result, Err, refl, sym, ap, ◌∙◌, subst, append-nil}
+use Rattle.std.proofs.Common.{◌≡◌, ℕ, Bool, false, List, [], ◌++◌, take, drop, Option, refl, sym, ap, ◌∙◌, subst, append-nil}
 use Rattle.std.proofs.lemmas.List.{take-append-drop}
 use Rattle.std.specs.Prelude.{MatchBool}
-use Rattle.rm_types.specs.declared.areas.Area.{Area}
 use Rattle.rm_types.specs.declared.faults.Fault.TheVariants as fault
-use Rattle.rm_types.specs.declared.numbers.TxnId.{TxnId}
-use Rattle.rm_outside.specs.Faults.{Rises}
-use Rattle.rm_outside.specs.Images.{Image}
-use Rattle.rm_outside.specs.Moments.{LeavesOnly}
+use Rattle.rm_outside.specs.Calls.{AllLeft, Facts}
 use Rattle.rm_outside.specs.Streams.{Takes}
 use Rattle.rm_outside.proofs.StreamLemmas.{Takes-none}
-use Rattle.rm_master.specs.Slots.{IsUnmade}
-use Rattle.rm_restart.specs.Opening.{NeedsUndoOf, IsDamage}
+use Rattle.rm_restart.specs.Outcomes.{Explains}
 use Rattle.rm_restart.specs.declared.faults.RestartFault.{RestartFault}
 use Rattle.rm_restart.specs.declared.faults.RestartFault.TheVariants as restart
 use Rattle.rm_command.specs.declared.statuses.Status.{Status}
@@ -55,37 +50,23 @@ owes_line Due a sink_failed why due =
     }
 
 -- the line of a volume that was not opened
-pub refused : {T : Type 0} (told : Type 0) (content : Image) (was is : Area → ℕ) (result : Result T RestartFault) (why : RestartFault) → result ≡ Err why
-    → (result ≡ Err restart.NotMade → told → IsUnmade content)
-    → ((area : Area) (at : ℕ) → result ≡ Err (restart.Fault (fault.Damaged area at)) → told → IsDamage content area at)
-    → ((area : Area) (at : ℕ) → result ≡ Err (restart.Fault (fault.Damaged area at)) → told → IsUnmade content → ⊥)
-    → ((txn : TxnId) → result ≡ Err (restart.NeedsUndo txn) → NeedsUndoOf told content txn.0)
-    → ((area : Area) → result ≡ Err (restart.Fault (fault.Volume area)) → Rises (was area) (is area))
-    → RefusedText told content (λ area. Rises (was area) (is area)) (of_restart why) (error_line (of_restart why))
-refused told content was is result restart.NotMade is_err not_made damaged made needs_undo cause = (not_made is_err, refl)
-refused told content was is result (restart.NeedsUndo txn) is_err not_made damaged made needs_undo cause = (needs_undo txn is_err, refl)
-refused told content was is result (restart.Fault (fault.Volume area)) is_err not_made damaged made needs_undo cause = (cause area is_err, refl)
-refused told content was is result (restart.Fault (fault.Damaged area at)) is_err not_made damaged made needs_undo cause = (made area at is_err, damaged area at is_err, refl)
-refused told content was is result restart.NoMemory is_err not_made damaged made needs_undo cause = refl
+pub refused : (old new : Facts) (why : RestartFault) → Explains old new why → RefusedText old new (of_restart why) (error_line (of_restart why))
+refused old new restart.NotMade cause = (cause.0, refl)
+refused old new (restart.NeedsUndo txn) cause = (cause.0, refl)
+refused old new (restart.Fault (fault.Volume area)) cause = (cause, refl)
+refused old new (restart.Fault (fault.Damaged area at)) cause = (λ models. (cause.0 models).made, λ models. (cause.0 models).damage, refl)
+refused old new restart.NoMemory cause = refl
 
 -- it is due for `restart`
-restart_refused : (told : Type 0) (content : Image) (risen : Area → Type 0) (why : RestartFault) (text : List ℕ) → RefusedText told content risen (of_restart why) text → RestartText told content risen (of_restart why) text
-restart_refused told content risen restart.NotMade text due = due
-restart_refused told content risen (restart.NeedsUndo txn) text due = due
-restart_refused told content risen (restart.Fault (fault.Volume area)) text due = due
-restart_refused told content risen (restart.Fault (fault.Damaged area at)) text due = due
-restart_refused told content risen restart.NoMemory text due = due
+restart_refused : (old new : Facts) (why : RestartFault) (text : List ℕ) → RefusedText old new (of_restart why) text → RestartText old new (of_restart why) text
+restart_refused old new restart.NotMade text due = due
+restart_refused old new (restart.NeedsUndo txn) text due = due
+restart_refused old new (restart.Fault (fault.Volume area)) text due = due
+restart_refused old new (restart.Fault (fault.Damaged area at)) text due = due
+restart_refused old new restart.NoMemory text due = due
 
 -- the volume was not opened
-pub owes_unopened : {T : Type 0} (told : Type 0) (content : Image) (left : Image → Type 0) (before now : ℕ) (past since : ℕ → Image → Type 0) (was is : Area → ℕ)
-    (a : Option (List ℕ)) (sink_failed : Type 0) (result : Result T RestartFault) (why : RestartFault) → result ≡ Err why
-    → (result ≡ Err restart.NotMade → told → IsUnmade content)
-    → ((area : Area) (at : ℕ) → result ≡ Err (restart.Fault (fault.Damaged area at)) → told → IsDamage content area at)
-    → ((area : Area) (at : ℕ) → result ≡ Err (restart.Fault (fault.Damaged area at)) → told → IsUnmade content → ⊥)
-    → ((txn : TxnId) → result ≡ Err (restart.NeedsUndo txn) → NeedsUndoOf told content txn.0)
-    → ((area : Area) → result ≡ Err (restart.Fault (fault.Volume area)) → Rises (was area) (is area))
-    → LeavesOnly before now past since left
-    → Owes (RestartDue told content left before now past since (λ area. Rises (was area) (is area))) a a sink_failed (of_restart why)
-owes_unopened told content left before now past since was is a sink_failed result why is_err not_made damaged made needs_undo cause images =
-    let line = refused told content was is result why is_err not_made damaged made needs_undo cause in
-    owes_line (RestartDue told content left before now past since (λ area. Rises (was area) (is area))) a sink_failed why (record { texts = restart_refused told content _ why _ line; images = images })
+pub owes_unopened : (old new : Facts) (a : Option (List ℕ)) (sink_failed : Type 0) (why : RestartFault) → Explains old new why → AllLeft old new old.may_leave
+    → Owes (RestartDue old new) a a sink_failed (of_restart why)
+owes_unopened old new a sink_failed why cause images =
+    owes_line (RestartDue old new) a sink_failed why (record { texts = restart_refused old new why _ (refused old new why cause); images = images })

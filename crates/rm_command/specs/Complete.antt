@@ -1,17 +1,18 @@
 -- How a command ends where nothing fails.
-use Rattle.std.specs.Prelude.{◌≡◌, ℕ, List, [], Option, Some, None, ◌⊎◌}
+use Rattle.std.specs.Prelude.{◌≡◌, ℕ, List, [], Option, Some, None, ◌⊎◌, IsTrue}
 use Rattle.rm_script.specs.declared.lines.Line.{Line}
 use Rattle.rm_types.specs.declared.numbers.TxnId.{TxnId}
 use Rattle.rm_outside.specs.Images.{Image}
+use Rattle.rm_outside.specs.Calls.{Facts}
+use Rattle.rm_master.specs.Slots.{IsMade}
 use Rattle.rm_script.specs.Grammar.{IsPlain, IsTurns, IsWithinLimits}
 use Rattle.rm_history.specs.Pending.{pending_of}
 use Rattle.rm_history.specs.Batched.{acts_of_batches}
-use Rattle.rm_restart.specs.Sound.{IsSound}
+use Rattle.rm_restart.specs.Sound.{IsPlainImage}
 use Rattle.rm_command.specs.declared.commands.Command.{Command}
 use Rattle.rm_command.specs.declared.commands.Command.TheVariants as command
 use Rattle.rm_command.specs.declared.statuses.Status.{Status}
 use Rattle.rm_command.specs.declared.statuses.Status.TheVariants as status
-use Rattle.rm_command.specs.Volumes.{IsMade}
 
 -- the command was done, or memory ran out
 abbrev pub IsDone : Status → Type 0
@@ -23,16 +24,17 @@ IsDoneOrRefused answer = IsDone answer ⊎ (((end : ℕ) × (answer ≡ status.L
 
 -- the volume is sound, and each transaction that its log has inserts of is committed
 pub record IsSettled (content : Image) : Type 0 where
-  pub sound : IsSound content
-  pub none : (id : ℕ) → pending_of (acts_of_batches sound.batches) id ≡ []
+  pub image : IsPlainImage content
+  pub none : (id : ℕ) → pending_of (acts_of_batches image.batches) id ≡ []
 
 -- With a right script, and a volume that is settled, or not made for `create`, a command is done, but for want of
 -- memory; `turns` also but for want of log room or of ids.
-abbrev pub EndsRight : Option Command → Option (List ℕ) → Type 0 → Image → Status → Type 0
-EndsRight None source told content answer = answer ≡ status.Usage
-EndsRight (Some command.Plain) source told content answer =
+abbrev pub EndsRight : Option Command → Option (List ℕ) → Facts → Status → Type 0
+EndsRight None source volume answer = answer ≡ status.Usage
+EndsRight (Some command.Plain) source volume answer =
     (bytes : List ℕ) (lines : List Line) → source ≡ Some bytes → IsPlain lines bytes → IsWithinLimits bytes → IsDone answer
-EndsRight (Some (command.Create pages)) source told content answer = told → (IsMade content → ⊥) → IsDone answer
-EndsRight (Some command.Turns) source told content answer =
-    (bytes : List ℕ) (lines : List Line) → source ≡ Some bytes → IsTurns lines bytes → IsWithinLimits bytes → told → IsSettled content → IsDoneOrRefused answer
-EndsRight (Some command.Restart) source told content answer = told → IsSettled content → IsDone answer
+EndsRight (Some (command.Create pages)) source volume answer = IsTrue volume.models_content → (IsMade volume.content → ⊥) → IsDone answer
+EndsRight (Some command.Turns) source volume answer =
+    (bytes : List ℕ) (lines : List Line) → source ≡ Some bytes → IsTurns lines bytes → IsWithinLimits bytes
+    → IsTrue volume.models_content → IsSettled volume.content → IsDoneOrRefused answer
+EndsRight (Some command.Restart) source volume answer = IsTrue volume.models_content → IsSettled volume.content → IsDone answer

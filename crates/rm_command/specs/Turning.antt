@@ -4,7 +4,7 @@ use Rattle.rm_script.specs.declared.lines.Line.{Line}
 use Rattle.rm_types.specs.declared.operations.Reply.{Reply}
 use Rattle.rm_types.specs.declared.numbers.TheConstants.{MAX_LOG}
 use Rattle.rm_outside.specs.Images.{Image}
-use Rattle.rm_outside.specs.Moments.{LeavesOnly}
+use Rattle.rm_outside.specs.Calls.{AllLeft, Facts}
 use Rattle.rm_outside.specs.Streams.{Takes}
 use Rattle.rm_model.specs.Object.{Rows}
 use Rattle.rm_script.specs.Texts.{turn_lines}
@@ -22,17 +22,17 @@ use Rattle.rm_command.specs.Told.{Begins, is_sink}
 abbrev pub used_by : Engine → Used
 used_by engine = used_of engine.log engine.inserts
 
--- From wherever it stood it stands behind the lines now, and each image since had no more than was acknowledged.
-abbrev pub StandsBehind : Engine → Engine → (Image → Type 0) → (Image → Type 0) → ℕ → ℕ → (ℕ → Image → Type 0) → (ℕ → Image → Type 0) → List Line → List Reply → Type 0
-StandsBehind from here left leaves before now past since lines replies = (pages count : ℕ) (rows : Rows)
-    → IsAt pages count rows from.session.core from.log from.under.0 from.inserts left → from.session.core.active ≡ false
-    → IsAfter pages count rows lines replies here.session.core here.log here.under.0 here.inserts leaves × LeavesOnly before now past since (IsWithin count rows lines replies)
+-- From wherever it stood it stands after the lines now, and each image since had no more than was acknowledged.
+abbrev pub StandsAfter : Engine → Engine → Facts → Facts → List Line → List Reply → Type 0
+StandsAfter from here old new lines replies = (pages count : ℕ) (rows : Rows)
+    → IsAt pages count rows from.session.core from.log from.under.0 from.inserts old.may_leave → from.session.core.active ≡ false
+    → IsAfter pages count rows lines replies here.session.core here.log here.under.0 here.inserts new.may_leave × AllLeft old new (IsWithin count rows lines replies)
 
 -- From wherever it stood each image since has the first transactions, and now all that were acknowledged.
-abbrev pub LeavesRun : Engine → (Image → Type 0) → (Image → Type 0) → ℕ → ℕ → (ℕ → Image → Type 0) → (ℕ → Image → Type 0) → List Line → List Reply → Option Line → Type 0
-LeavesRun from left leaves before now past since lines replies next = (pages count : ℕ) (rows : Rows)
-    → IsAt pages count rows from.session.core from.log from.under.0 from.inserts left → from.session.core.active ≡ false
-    → LeavesOnly before now past since (HasAsked count rows lines replies next) × ((c : Image) → leaves c → HasAcknowledged count rows lines replies c)
+abbrev pub LeavesRun : Engine → Facts → Facts → List Line → List Reply → Option Line → Type 0
+LeavesRun from old new lines replies next = (pages count : ℕ) (rows : Rows)
+    → IsAt pages count rows from.session.core from.log from.under.0 from.inserts old.may_leave → from.session.core.active ≡ false
+    → AllLeft old new (HasAsked count rows lines replies next) × ((c : Image) → new.may_leave c → HasAcknowledged count rows lines replies c)
 
 -- The session did the lines, and each had room in the log. The sink took a front of their replies' text, and the buffer has the rest.
 pub record Turned (old new : Engine) (lines : List Line) (Leaves : List Line → List Reply → Type 0) (before after : Option (List ℕ)) (buffer : List ℕ) : Type 0 where

@@ -1,5 +1,5 @@
 -- What is due for `turns`.
-use Rattle.std.specs.Prelude.{◌≡◌, ℕ, ◌+◌, ◌-◌, ◌≤◌, List, [], ◌++◌, length, take, slice_get, Option, Some, ◌⊎◌, if◌then◌else◌}
+use Rattle.std.specs.Prelude.{◌≡◌, ℕ, ◌+◌, ◌-◌, ◌≤◌, List, [], ◌++◌, length, take, slice_get, Option, Some, ◌⊎◌, IsTrue, if◌then◌else◌}
 use Rattle.rm_types.specs.declared.areas.Area.{Area}
 use Rattle.rm_script.specs.declared.lines.Line.{Line}
 use Rattle.rm_script.specs.declared.lines.Line.TheVariants as line
@@ -8,7 +8,7 @@ use Rattle.rm_types.specs.declared.slots.Slot.{Slot}
 use Rattle.rm_types.specs.declared.numbers.TheConstants.{MAX_LOG}
 use Rattle.rm_types.specs.declared.numbers.TxnId.{TxnId}
 use Rattle.rm_outside.specs.Images.{Image}
-use Rattle.rm_outside.specs.Moments.{LeavesOnly}
+use Rattle.rm_outside.specs.Calls.{AllLeft, Facts, HasFailed}
 use Rattle.rm_model.specs.Object.{Rows}
 use Rattle.rm_session.specs.Session.{State, opened}
 use Rattle.rm_script.specs.Grammar.{IsTurns, IsFirstWrongTurns, IsWithinLimits}
@@ -18,7 +18,7 @@ use Rattle.rm_history.specs.Counts.{commit_count}
 use Rattle.rm_history.specs.Batched.{acts_of_batches}
 use Rattle.rm_script.specs.Refusals.{HasTooMuch}
 use Rattle.rm_wal.specs.Tails.{LogValue}
-use Rattle.rm_restart.specs.Sound.{IsSound}
+use Rattle.rm_restart.specs.Sound.{IsPlainImage}
 use Rattle.rm_restart.specs.Opening.{Opens}
 use Rattle.rm_engine.specs.Numbers.{Used, used_of, LacksRoom, LacksIds}
 use Rattle.rm_engine.specs.Runs.{LoggedRun, acknowledged, HasFirst, HasAcknowledged}
@@ -83,26 +83,27 @@ pub record HasAsked (count : ℕ) (rows : Rows) (lines : List Line) (replies : L
 
 -- Each image since the start is one from before the opening, or has the rows of the run's first transactions, as
 -- many as its log has commits of the run; and now each has all that were acknowledged.
-pub record HasRunImages (count : ℕ) (rows : Rows) (left leaves : Image → Type 0) (before now : ℕ) (past since : ℕ → Image → Type 0) (lines : List Line) (replies : List Reply) (next : Option Line) : Type 0 where
-  pub any_moment : LeavesOnly before now past since (λ c. left c ⊎ HasAsked count rows lines replies next c)
-  pub durable : (c : Image) → leaves c → HasAcknowledged count rows lines replies c
+pub record HasRunImages (count : ℕ) (rows : Rows) (old new : Facts) (lines : List Line) (replies : List Reply) (next : Option Line) : Type 0 where
+  pub any_moment : AllLeft old new (λ c. old.may_leave c ⊎ HasAsked count rows lines replies next c)
+  pub durable : (c : Image) → new.may_leave c → HasAcknowledged count rows lines replies c
 
--- The volume was opened, and the lines were done from the pages and the next id that the opening found. Where the
--- content is told and sound, so is each image, from its commits and rows on.
-pub record OpenedText (told : Type 0) (content : Image) (left leaves : Image → Type 0) (before now : ℕ) (past since : ℕ → Image → Type 0) (risen : Area → Type 0) (lines : List Line) (answer : Status) (text : List ℕ) : Type 0 where
+-- where the content is modelled and sound, from its commits and rows on
+abbrev pub LeavesSound : Facts → Facts → List Line → List Reply → Option Line → Type 0
+LeavesSound old new done replies asked = IsTrue old.models_content → (image : IsPlainImage old.content)
+    → HasRunImages (commit_count (acts_of_batches image.batches)) (rows_of_log (acts_of_batches image.batches)) old new done replies asked
+
+-- The volume was opened, and the lines were done from the pages and the next id that the opening found.
+pub record OpenedText (old new : Facts) (lines : List Line) (answer : Status) (text : List ℕ) : Type 0 where
   pub pages : List (List Slot)
   pub next : ℕ
   pub log : LogValue
   pub inserted : ℕ
-  pub opens : Opens told content MAX_LOG pages next log inserted
-  pub written : RunText (opened pages next) (used_of log 0) lines (λ done replies asked. told → (sound : IsSound content)
-      → HasRunImages (commit_count (acts_of_batches sound.batches)) (rows_of_log (acts_of_batches sound.batches)) left leaves before now past since done replies asked) risen answer text
+  pub opens : Opens (IsTrue old.models_content) old.content MAX_LOG pages next log inserted
+  pub written : RunText (opened pages next) (used_of log 0) lines (LeavesSound old new) (HasFailed old new) answer text
 
 -- what is due for the lines of a script
-abbrev pub LinesDue : Type 0 → Image → (Image → Type 0) → (Image → Type 0) → ℕ → ℕ → (ℕ → Image → Type 0) → (ℕ → Image → Type 0) → (Area → Type 0) → List Line → Status → List ℕ → Type 0
-LinesDue told content left leaves before now past since risen lines answer text =
-    (LeavesOnly before now past since left × RefusedText told content risen answer text)
-    ⊎ OpenedText told content left leaves before now past since risen lines answer text
+abbrev pub LinesDue : Facts → Facts → List Line → Status → List ℕ → Type 0
+LinesDue old new lines answer text = (AllLeft old new old.may_leave × RefusedText old new answer text) ⊎ OpenedText old new lines answer text
 
 -- The script was not read or is refused, and the volume was not touched.
 abbrev pub ScriptText : List ℕ → Type 0 → Status → List ℕ → Type 0
@@ -113,7 +114,7 @@ ScriptText bytes source_failed status.NoMemory text = text ≡ error_line status
 ScriptText bytes source_failed other text = ⊥
 
 -- What is due for `turns`: the script is refused, or its lines are done.
-abbrev pub TurnsDue : Option (List ℕ) → Type 0 → Type 0 → Image → (Image → Type 0) → (Image → Type 0) → ℕ → ℕ → (ℕ → Image → Type 0) → (ℕ → Image → Type 0) → (Area → Type 0) → Status → List ℕ → Type 0
-TurnsDue source source_failed told content left leaves before now past since risen answer text =
-    (bytes : List ℕ) × HasLeft source bytes × ((LeavesOnly before now past since left × ScriptText bytes source_failed answer text)
-    ⊎ ((lines : List Line) × IsWithinLimits bytes × IsTurns lines bytes × LinesDue told content left leaves before now past since risen lines answer text))
+abbrev pub TurnsDue : Option (List ℕ) → Type 0 → Facts → Facts → Status → List ℕ → Type 0
+TurnsDue source source_failed old new answer text =
+    (bytes : List ℕ) × HasLeft source bytes × ((AllLeft old new old.may_leave × ScriptText bytes source_failed answer text)
+    ⊎ ((lines : List Line) × IsWithinLimits bytes × IsTurns lines bytes × LinesDue old new lines answer text))

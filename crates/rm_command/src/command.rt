@@ -4,6 +4,7 @@ ghost use Rattle.std.specs.Prelude.{◌≡◌, ◌≤◌, ◌⊎◌, ℕ, IsTrue
 ghost use Rattle.rm_types.specs.declared.numbers.TheConstants.{MAX_PAGES};
 ghost use Rattle.rm_types.specs.declared.areas.Area.{Area as Areas};
 ghost use Rattle.rm_outside.specs.Faults.{Rises};
+ghost use Rattle.rm_outside.specs.Calls.{facts_of, HasFailed};
 ghost use Rattle.rm_command.specs.declared.commands.Command.{Command as Commands};
 ghost use Rattle.rm_command.specs.Commands.{IsCommand, Names, TakesScript, HasScript};
 ghost use Rattle.rm_command.specs.Reading.{IsReadToEnd};
@@ -58,9 +59,7 @@ fn do_command<V: Volume, S: Source, K: Sink>(
 ) -> Status
     requires { AsksRight command }
     ensures owes { Owes (DueFor command (S.left script.old) (Rises (S.faults script.old) (S.faults script.new))
-        (IsTrue V.tells) (V.content volume.old) (V.may_leave volume.old) (V.may_leave volume.new)
-        (V.moment volume.old) (V.moment volume.new) (V.left_since volume.old) (V.left_since volume.new)
-        (λ area. Rises (V.faults volume.old area) (V.faults volume.new area)))
+        (facts_of V.Volume volume.old) (facts_of V.Volume volume.new))
         (K.taken out.old) (K.taken out.new) (Rises (K.faults out.old) (K.faults out.new)) result }
     ensures to_end { result ≡ Status.Done → TakesScript command → IsReadToEnd (S.left script.old) (S.left script.new) }
     ensures unread { (TakesScript command → ⊥) → script.new ≡ script.old }
@@ -106,14 +105,12 @@ pub fn run_command<V: Volume, S: Source, K: Sink>(
     // has each image that a crash might have left.
     ensures answers { (command : Option Commands) × Names (map string_bytes words.now) command
         × Answers (DueFor command (S.left script.old) (Rises (S.faults script.old) (S.faults script.new))
-        (IsTrue V.tells) (V.content volume.old) (V.may_leave volume.old) (V.may_leave volume.new)
-        (V.moment volume.old) (V.moment volume.new) (V.left_since volume.old) (V.left_since volume.new)
-        (λ area. Rises (V.faults volume.old area) (V.faults volume.new area)))
+        (facts_of V.Volume volume.old) (facts_of V.Volume volume.new))
         (K.taken out.old) (K.taken out.new) (Rises (K.faults out.old) (K.faults out.new)) result }
     // Where nothing fails, a right script over a right volume is done, but for want of memory, log room or ids.
     ensures complete { (command : Option Commands) × Names (map string_bytes words.now) command
-        × ((Rises (S.faults script.old) (S.faults script.new) → ⊥) → (Rises (K.faults out.old) (K.faults out.new) → ⊥) → ((area : Areas) → Rises (V.faults volume.old area) (V.faults volume.new area) → ⊥)
-        → EndsRight command (S.left script.old) (IsTrue V.tells) (V.content volume.old) result) }
+        × ((Rises (S.faults script.old) (S.faults script.new) → ⊥) → (Rises (K.faults out.old) (K.faults out.new) → ⊥) → ((area : Areas) → HasFailed (facts_of V.Volume volume.old) (facts_of V.Volume volume.new) area → ⊥)
+        → EndsRight command (S.left script.old) (facts_of V.Volume volume.old) result) }
 
     // A script that was done was read to its end, and without the words for it nothing is read.
     ensures to_end { result ≡ Status.Done → HasScript (map string_bytes words.now) → IsReadToEnd (S.left script.old) (S.left script.new) }

@@ -11,8 +11,6 @@ mod plain;
 mod reading;
 mod statuses;
 mod stops;
-#[cfg(test)]
-mod tests;
 mod turns;
 mod volumes;
 mod writing;

@@ -6,7 +6,7 @@ ghost use Rattle.rm_types.specs.declared.areas.Area.TheVariants.{Log as log_area
 ghost use Rattle.rm_script.specs.declared.lines.Line.{Line as Lines};
 ghost use Rattle.rm_types.specs.declared.numbers.TheConstants.{MAX_LOG};
 ghost use Rattle.rm_outside.specs.Faults.{Rises};
-ghost use Rattle.rm_outside.specs.Moments.{IsDurable};
+ghost use Rattle.rm_outside.specs.Calls.{facts_of, HasFailed, IsSynced};
 ghost use Rattle.rm_script.specs.Texts.{turn_line};
 ghost use Rattle.rm_engine.specs.Numbers.{IsReady};
 ghost use Rattle.rm_command.specs.Reading.{IsReadToEnd};
@@ -75,17 +75,17 @@ fn do_turns<V: Volume, K: Sink>(
     out: &mut K,
 ) -> Result<(), Status>
     requires ready { IsReady engine.old.session.core engine.old.log engine.old.inserts }
-    requires durable { IsDurable log_area (V.content volume.old) (V.may_leave volume.old) }
+    requires synced { IsSynced V.Volume log_area volume.old }
     requires limit { engine.old.log.limit ≡ MAX_LOG }
     requires empty { text.old.items ≡ [] }
 
     ensures ok { OnOk result (Turned engine.old engine.new lines.now
-        (λ done replies. (next : Option Lines) → LeavesRun engine.old (V.may_leave volume.old) (V.may_leave volume.new) (V.moment volume.old) (V.moment volume.new) (V.left_since volume.old) (V.left_since volume.new) done replies next)
+        (λ done replies. (next : Option Lines) → LeavesRun engine.old (facts_of V.Volume volume.old) (facts_of V.Volume volume.new) done replies next)
         (K.taken out.old) (K.taken out.new) text.new.items) }
     ensures ready { OnOk result (IsReady engine.new.session.core engine.new.log engine.new.inserts) }
     ensures err { IfErr result (λ status. Gathers (RunText engine.old.session (used_by engine.old) lines.now
-        (LeavesRun engine.old (V.may_leave volume.old) (V.may_leave volume.new) (V.moment volume.old) (V.moment volume.new) (V.left_since volume.old) (V.left_since volume.new))
-        (λ area. Rises (V.faults volume.old area) (V.faults volume.new area)))
+        (LeavesRun engine.old (facts_of V.Volume volume.old) (facts_of V.Volume volume.new))
+        (HasFailed (facts_of V.Volume volume.old) (facts_of V.Volume volume.new)))
         (K.taken out.old) (K.taken out.new) (Rises (K.faults out.old) (K.faults out.new)) status text.new.items) }
     ensures counts { (area : Areas) → V.faults volume.old area ≤ V.faults volume.new area }
     ensures kept { K.faults out.old ≤ K.faults out.new }
@@ -107,13 +107,13 @@ fn do_session<V: Volume, K: Sink>(
     out: &mut K,
 ) -> Status
     requires ready { IsReady engine.old.session.core engine.old.log engine.old.inserts }
-    requires durable { IsDurable log_area (V.content volume.old) (V.may_leave volume.old) }
+    requires synced { IsSynced V.Volume log_area volume.old }
     requires limit { engine.old.log.limit ≡ MAX_LOG }
     requires empty { text.old.items ≡ [] }
 
     ensures gathers { Gathers (RunText engine.old.session (used_by engine.old) lines.now
-        (LeavesRun engine.old (V.may_leave volume.old) (V.may_leave volume.new) (V.moment volume.old) (V.moment volume.new) (V.left_since volume.old) (V.left_since volume.new))
-        (λ area. Rises (V.faults volume.old area) (V.faults volume.new area)))
+        (LeavesRun engine.old (facts_of V.Volume volume.old) (facts_of V.Volume volume.new))
+        (HasFailed (facts_of V.Volume volume.old) (facts_of V.Volume volume.new)))
         (K.taken out.old) (K.taken out.new) (Rises (K.faults out.old) (K.faults out.new)) result text.new.items }
     ensures counts { (area : Areas) → V.faults volume.old area ≤ V.faults volume.new area }
     ensures kept { K.faults out.old ≤ K.faults out.new }
@@ -135,9 +135,7 @@ fn do_lines<V: Volume, K: Sink>(
     volume: &mut V,
     out: &mut K,
 ) -> Status
-    ensures owes { Owes (LinesDue (IsTrue V.tells) (V.content volume.old) (V.may_leave volume.old) (V.may_leave volume.new)
-        (V.moment volume.old) (V.moment volume.new) (V.left_since volume.old) (V.left_since volume.new)
-        (λ area. Rises (V.faults volume.old area) (V.faults volume.new area)) lines.now)
+    ensures owes { Owes (LinesDue (facts_of V.Volume volume.old) (facts_of V.Volume volume.new) lines.now)
         (K.taken out.old) (K.taken out.new) (Rises (K.faults out.old) (K.faults out.new)) result }
     ensures kept { K.faults out.old ≤ K.faults out.new }
 {
@@ -165,9 +163,7 @@ pub fn turns<V: Volume, S: Source, K: Sink>(
     out: &mut K,
 ) -> Status
     ensures owes { Owes (TurnsDue (S.left script.old) (Rises (S.faults script.old) (S.faults script.new))
-        (IsTrue V.tells) (V.content volume.old) (V.may_leave volume.old) (V.may_leave volume.new)
-        (V.moment volume.old) (V.moment volume.new) (V.left_since volume.old) (V.left_since volume.new)
-        (λ area. Rises (V.faults volume.old area) (V.faults volume.new area)))
+        (facts_of V.Volume volume.old) (facts_of V.Volume volume.new))
         (K.taken out.old) (K.taken out.new) (Rises (K.faults out.old) (K.faults out.new)) result }
     ensures to_end { result ≡ Status.Done → IsReadToEnd (S.left script.old) (S.left script.new) }
     ensures kept { K.faults out.old ≤ K.faults out.new }

@@ -3,6 +3,7 @@
 ghost use Rattle.std.specs.Prelude.{◌≡◌, ◌≤◌, IsTrue};
 ghost use Rattle.rm_types.specs.declared.numbers.TheConstants.{MAX_PAGES};
 ghost use Rattle.rm_outside.specs.Faults.{Rises};
+ghost use Rattle.rm_outside.specs.Calls.{facts_of};
 ghost use Rattle.rm_command.specs.Told.{Owes};
 ghost use Rattle.rm_command.specs.Volumes.{CreateDue, RestartDue};
 
@@ -19,9 +20,7 @@ use std::alloc::Global;
 /// of memory leaves the volume as it was.
 pub fn create<V: Volume, K: Sink>(alloc: Global, pages: u32, volume: &mut V, out: &mut K) -> Status
     requires { (1 ≤ pages) × (pages ≤ MAX_PAGES) }
-    ensures owes { Owes (CreateDue pages (IsTrue V.tells) (V.content volume.old) (V.may_leave volume.old) (V.may_leave volume.new)
-        (V.moment volume.old) (V.moment volume.new) (V.left_since volume.old) (V.left_since volume.new)
-        (λ area. Rises (V.faults volume.old area) (V.faults volume.new area)))
+    ensures owes { Owes (CreateDue pages (facts_of V.Volume volume.old) (facts_of V.Volume volume.new))
         (K.taken out.old) (K.taken out.new) (Rises (K.faults out.old) (K.faults out.new)) result }
     ensures kept { K.faults out.old ≤ K.faults out.new }
 {
@@ -40,9 +39,7 @@ pub fn create<V: Volume, K: Sink>(alloc: Global, pages: u32, volume: &mut V, out
 
 /// Does the command `restart`, all but the line that tells of a status.
 pub fn open<V: Volume, K: Sink>(alloc: Global, volume: &mut V, out: &mut K) -> Status
-    ensures owes { Owes (RestartDue (IsTrue V.tells) (V.content volume.old) (V.may_leave volume.old)
-        (V.moment volume.old) (V.moment volume.new) (V.left_since volume.old) (V.left_since volume.new)
-        (λ area. Rises (V.faults volume.old area) (V.faults volume.new area)))
+    ensures owes { Owes (RestartDue (facts_of V.Volume volume.old) (facts_of V.Volume volume.new))
         (K.taken out.old) (K.taken out.new) (Rises (K.faults out.old) (K.faults out.new)) result }
     ensures kept { K.faults out.old ≤ K.faults out.new }
 {

@@ -21,12 +21,13 @@ use Rattle.rm_history.specs.Acts.{act_at, newest_lsn}
 use Rattle.rm_history.specs.Rows.{rows_of_log}
 use Rattle.rm_history.specs.Counts.{commit_count}
 use Rattle.rm_history.specs.Batched.{acts_of_batches}
-use Rattle.rm_history.proofs.Behind.{acts_behind-snoc, newest_below, newest_of_batches}
+use Rattle.rm_history.proofs.Appending.{acts_after-snoc, newest_below, newest_of_batches}
 use Rattle.rm_wal.specs.Tails.{LogValue, end_of}
 use Rattle.rm_wal.specs.Flushing.{ComesByFlush, Tails, HasEither, written_tail}
 use Rattle.rm_master.specs.Slots.{HasFields}
 use Rattle.rm_restart.specs.Sound.{IsImageOf, IsSoundLog, Holds}
 use Rattle.rm_restart.proofs.PlainUndo.{undo_bytes-one, undo_bytes-none}
+use Rattle.rm_restart.proofs.Soundness.{plain_image}
 use Rattle.rm_engine.specs.Numbers.{IsReady}
 use Rattle.rm_engine.specs.At.{IsAtHistory, IsAt, whole_history}
 use Rattle.rm_engine.proofs.Steps.{begun, inserted, committed}
@@ -38,13 +39,14 @@ image_with_log pages batches others d c image same has = record {
   master = subst (λ (area : Bytes). HasFields area image.fields) (sym same) image.master;
   size = image.size;
   checkpoint = image.checkpoint;
+  half = image.half;
   log = has;
 }
 
 pub holds_of : (pages count : ℕ) (rows : Rows) (batches : List Batch) (c : Image) → IsImageOf pages batches c → IsSoundLog pages batches
     → commit_count (acts_of_batches batches) ≡ count → rows_of_log (acts_of_batches batches) ≡ rows → Holds count rows c
 holds_of pages count rows batches c image sound counted same = record {
-  sound = record { pages = pages; batches = batches; image = image; sound_log = sound };
+  image = plain_image pages batches c image sound;
   commits_are = counted;
   rows_are = same;
 }
@@ -64,10 +66,10 @@ module _ (pages count : ℕ) (rows : Rows) (core : Core) (log : LogValue) (under
 
   -- the images have the log whose batches stand
   pub tails : Tails log.batch log.tail left at.batches at.tail
-  tails = record { behind = at.batch_is; spelled = at.tail_is; records = at.records; logs = λ c now. (at.images c now).log }
+  tails = record { gate_is = at.batch_is; spelled = at.tail_is; records = at.records; logs = λ c now. (at.images c now).log }
 
   master_stays : (c : Image) → ComesByFlush log.batch (written_tail log.tail) left c → (d : Image) × left d × (c Master ≡ d Master)
-  master_stays c comes = (comes.from, comes.was, comes.step.areas Master (λ same. cc))
+  master_stays c comes = (comes.0, comes.1, comes.2.others.each Master (λ same. cc))
 
   end_is : gate_of (at.tail ∷ at.batches) ≡ end_of log
   end_is = omega (arith, at.batch_is, ap (λ (l : List ℕ). length l) at.tail_is)
@@ -78,8 +80,7 @@ module _ (pages count : ℕ) (rows : Rows) (core : Core) (log : LogValue) (under
       let open_now = at.at_history.busy active in
       let undo = undo_bytes-one (whole_history at.batches at.tail) at.at_history.in_order at.at_history.plain (core.next - 1) open_now.others in
       record {
-        in_order = at.at_history.in_order;
-        plain = at.at_history.plain;
+        rules = (at.at_history.in_order, at.at_history.plain);
         below = at.at_history.below;
         room = omega (arith, undo, open_now.inserts_are, end_is, ready.room_behind active some, ready.limit);
       }
@@ -141,7 +142,7 @@ module _ (pages count : ℕ) (rows : Rows) (core : Core) (log : LogValue) (under
   grown : (lsn : ℕ) (next : LogRecord) → lsn ≡ end_of log → whole_history at.batches (at.tail ++ next ∷ []) ≡ act_at lsn next ∷ whole_history at.batches at.tail
   grown lsn next is =
       let same : gate_of at.batches + BATCH_HEADER + length (spelling_all at.tail) ≡ lsn = next_lsn ∙ sym is in
-      acts_behind-snoc (acts_of_batches at.batches) (gate_of at.batches + BATCH_HEADER) at.tail next
+      acts_after-snoc (acts_of_batches at.batches) (gate_of at.batches + BATCH_HEADER) at.tail next
       ∙ ap (λ (n : ℕ). act_at n next ∷ whole_history at.batches at.tail) same
 
   -- a row is put, and its record is in the tail
@@ -177,7 +178,7 @@ module _ (pages count : ℕ) (rows : Rows) (core : Core) (log : LogValue) (under
     -- the images have the log whose batches stand
     pub tails_closing : Tails log.batch (log.tail ++ spelling (Commit txn)) left at.batches (at.tail ++ Commit txn ∷ [])
     tails_closing = record {
-      behind = at.batch_is;
+      gate_is = at.batch_is;
       spelled = tail_closing;
       records = all-snoc at.tail (Commit txn) at.records is_record;
       logs = λ c now. (at.images c now).log;
@@ -196,8 +197,7 @@ module _ (pages count : ℕ) (rows : Rows) (core : Core) (log : LogValue) (under
         let none = undo_bytes-none (whole_history at.batches closing) after.in_order after.plain (after.idle refl).none in
         let size : length (log.tail ++ spelling (Commit txn)) ≡ length log.tail + 5 = length-append log.tail (spelling (Commit txn)) in
         record {
-          in_order = after.in_order;
-          plain = after.plain;
+          rules = (after.in_order, after.plain);
           below = after.below;
           room = omega (arith, none, end_closing, size, ready.room active, ready.limit);
         }
@@ -206,11 +206,11 @@ module _ (pages count : ℕ) (rows : Rows) (core : Core) (log : LogValue) (under
     pub holds_in_commit : (c : Image) → HasEither at.batches (at.tail ++ Commit txn ∷ []) c → ComesByFlush log.batch (written_tail (log.tail ++ spelling (Commit txn))) left c
         → Holds count rows c ⊎ Holds (count + 1) (rows_of core.pages) c
     holds_in_commit c (inl old) comes =
-        let same : c Master ≡ comes.from Master = comes.step.areas Master (λ equal. cc) in
-        inl (holds_of pages count rows at.batches c (image_with_log pages at.batches at.batches comes.from c (at.images comes.from comes.was) same old) at.sound at.commits_stand at.rows_stand)
+        let same : c Master ≡ comes.0 Master = comes.2.others.each Master (λ equal. cc) in
+        inl (holds_of pages count rows at.batches c (image_with_log pages at.batches at.batches comes.0 c (at.images comes.0 comes.1) same old) at.sound at.commits_stand at.rows_stand)
     holds_in_commit c (inr new) comes =
-        let same : c Master ≡ comes.from Master = comes.step.areas Master (λ equal. cc) in
-        inr (holds_of pages (count + 1) (rows_of core.pages) (closing ∷ at.batches) c (image_with_log pages at.batches (closing ∷ at.batches) comes.from c (at.images comes.from comes.was) same new)
+        let same : c Master ≡ comes.0 Master = comes.2.others.each Master (λ equal. cc) in
+        inr (holds_of pages (count + 1) (rows_of core.pages) (closing ∷ at.batches) c (image_with_log pages at.batches (closing ∷ at.batches) comes.0 c (at.images comes.0 comes.1) same new)
         sound_closing after.commits_are after.rows_are)
 
     -- and once it is durable the session stands behind it
@@ -227,8 +227,8 @@ module _ (pages count : ℕ) (rows : Rows) (core : Core) (log : LogValue) (under
       sound = sound_closing;
       images = λ c now.
           let by = comes c now in
-          let same : c Master ≡ by.from Master = by.step.areas Master (λ equal. cc) in
-          image_with_log pages at.batches (closing ∷ at.batches) by.from c (at.images by.from by.was) same (logs c now);
+          let same : c Master ≡ by.0 Master = by.2.others.each Master (λ equal. cc) in
+          image_with_log pages at.batches (closing ∷ at.batches) by.0 c (at.images by.0 by.1) same (logs c now);
       commits_stand = after.commits_are;
       rows_stand = after.rows_are;
       nothing_behind = λ idle. refl;

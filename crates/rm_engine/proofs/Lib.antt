@@ -9,6 +9,5 @@ pub mod Turned
 pub mod Runs
 pub mod RunsExamples
 pub mod RoomExamples
-pub mod Behind
-pub mod After
+pub mod GoingOn
 pub mod RunImages

@@ -7,7 +7,7 @@ use Rattle.rm_types.specs.declared.slots.Slot.{Slot}
 use Rattle.rm_outside.specs.Images.{Image}
 use Rattle.rm_model.specs.Pages.{row_at, set_slot}
 use Rattle.rm_model.specs.Files.{page_at, rows_of}
-use Rattle.rm_history.specs.Acts.{Change, History, changes, undoes, enters, commits, ends, lists}
+use Rattle.rm_history.specs.Acts.{Change, History, changes, undoes, enters, commits, ends, marks}
 use Rattle.rm_history.specs.Contents.{page_of}
 use Rattle.rm_history.specs.Pending.{pending_of}
 use Rattle.rm_history.specs.Rows.{rows_of_log}
@@ -34,7 +34,7 @@ beyond (undoes u ∷ before) pages page below past =
 beyond (enters e ∷ before) pages page below past = beyond before pages page below.1 past
 beyond (commits f ∷ before) pages page below past = beyond before pages page below.1 past
 beyond (ends f ∷ before) pages page below past = beyond before pages page below.1 past
-beyond (lists l ∷ before) pages page below past = beyond before pages page below.1 past
+beyond (marks m ∷ before) pages page below past = beyond before pages page below.1 past
 
 -- where nothing is pending, the pages hold the rows of the log
 settled : (history : History) → IsInOrder history → ((txn : ℕ) → pending_of history txn ≡ []) → (rid : Rid) → row_at (page_of history rid.page) rid.slot ≡ rows_of_log history rid
@@ -66,15 +66,15 @@ module _ (told : Type 0) (content : Image) (limit : ℕ) (pages : List (List Slo
     rows_stand = refl;
     nothing_behind = λ idle. refl;
     at_history = record {
-      in_order = sound.in_order;
-      plain = sound.plain;
+      in_order = sound.rules.0;
+      plain = sound.rules.1;
       below = sound.below;
       length_is = opens.count;
       pages_are = opens.pages_are;
       ids = omega (arith, opens.next_is);
       commits_are = refl;
       rows_are = refl;
-      idle = λ idle. record { none = opens.settled; shown = rows_same sound.in_order };
+      idle = λ idle. record { none = opens.settled; shown = rows_same sound.rules.0 };
       busy = λ active. absurd (true≢false (sym active));
     };
   }

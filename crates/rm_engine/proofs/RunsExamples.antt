@@ -13,7 +13,7 @@ use Rattle.rm_model.specs.Object.{Rows}
 use Rattle.rm_session.specs.Session.{IsPlaceFor, Core}
 use Rattle.rm_engine.specs.At.{count_after, committed_after, IsCommitOf, Changes}
 use Rattle.rm_engine.specs.Numbers.{LacksIds}
-use Rattle.rm_engine.specs.Runs.{begins, acknowledged, put, left_to_begin, rows_after}
+use Rattle.rm_engine.specs.Runs.{acknowledged, open_with, open_after, put, rows_after}
 
 -- two rows, and their places: the first two slots of the first page
 abbrev two : List ℕ
@@ -39,13 +39,13 @@ replies = reply.Began (record { 0 = 1 }) ∷ reply.Inserted first ∷ reply.Comm
 abbrev none : Rows
 none = λ rid. None
 
-both_begun : begins replies ≡ 2
-both_begun = refl
-
 one_acknowledged : acknowledged replies ≡ 1
 one_acknowledged = refl
 
--- of no transaction there are no rows, of the first there is its own, and of two there are both
+one_open : open_after replies 0 ≡ 1
+one_open = refl
+
+-- of no transaction there are no rows, of the one that committed there is its own, and with the open one there are both
 after_none : (rows_after lines replies 0 none first ≡ None) × (rows_after lines replies 0 none second ≡ None)
 after_none = (refl, refl)
 
@@ -55,16 +55,24 @@ after_first = (refl, refl)
 after_both : (rows_after lines replies 2 none first ≡ Some two) × (rows_after lines replies 2 none second ≡ Some one)
 after_both = (refl, refl)
 
+-- the row of the later commit does not come before that of the earlier one
+not_the_later : rows_after lines replies 1 none second ≡ Some one → ⊥
+not_the_later is = cc
+
+not_without_the_first : rows_after lines replies 2 none first ≡ None → ⊥
+not_without_the_first is = cc
+
 -- of two rows at one place the later stands
-later_stands : rows_after (line.Begin ∷ line.Insert 0 two ∷ line.Insert 1 one ∷ []) (reply.Began (record { 0 = 1 }) ∷ reply.Inserted first ∷ reply.Inserted first ∷ []) 1 none first ≡ Some one
+later_stands : rows_after (line.Begin ∷ line.Insert 0 two ∷ line.Insert 1 one ∷ [])
+    (reply.Began (record { 0 = 1 }) ∷ reply.Inserted first ∷ reply.Inserted first ∷ []) 1 none first ≡ Some one
 later_stands = refl
 
--- a transaction that begins takes one of those that may, and any other reply takes none
-takes_one : (left_to_begin (reply.Began (record { 0 = 7 })) 3 ≡ Some 2) × (left_to_begin (reply.Began (record { 0 = 7 })) 0 ≡ None)
-takes_one = (refl, refl)
+-- a begin opens a transaction, a commit ends it, and any other reply leaves what is open
+opens : (open_with (reply.Began (record { 0 = 7 })) 0 ≡ 1) × (open_with reply.Committed 1 ≡ 0) × (open_with reply.Skipped 1 ≡ 1)
+opens = (refl, refl, refl)
 
-takes_none : (left_to_begin reply.Committed 3 ≡ Some 3) × (left_to_begin (reply.Inserted first) 0 ≡ Some 0)
-takes_none = (refl, refl)
+none_open : open_after (reply.Began (record { 0 = 1 }) ∷ reply.NoSpace ∷ reply.Committed ∷ reply.Skipped ∷ []) 0 ≡ 0
+none_open = refl
 
 -- an insert that found its place puts its row there, and nothing elsewhere
 put_there : (put none (line.Insert 0 two) (reply.Inserted second) second ≡ Some two) × (put none (line.Insert 0 two) (reply.Inserted second) first ≡ None)
@@ -75,7 +83,8 @@ module _ (rows : Rows) where
   put_nothing : (put rows (line.Insert 0 two) reply.Skipped ≡ rows) × (put rows (line.Insert 0 two) reply.NoSpace ≡ rows)
   put_nothing = (refl, refl)
 
-  rows_stay : rows_after (line.Insert 0 two ∷ line.Begin ∷ line.Insert 0 two ∷ line.Commit ∷ []) (reply.Skipped ∷ reply.Began (record { 0 = 1 }) ∷ reply.NoSpace ∷ reply.Committed ∷ []) 1 rows ≡ rows
+  rows_stay : rows_after (line.Insert 0 two ∷ line.Begin ∷ line.Insert 0 two ∷ line.Commit ∷ [])
+      (reply.Skipped ∷ reply.Began (record { 0 = 1 }) ∷ reply.NoSpace ∷ reply.Committed ∷ []) 1 rows ≡ rows
   rows_stay = refl
 
 -- a session over one page with a row, with no transaction and with one
@@ -107,7 +116,7 @@ commit_changes = (refl, refl)
 read_changes : Changes busy (line.Read (target.Name 0)) (reply.Row two) busy
 read_changes = (tt, refl)
 
--- no begin is told that it is committed, and no read that it inserted
+-- no begin has the reply that it committed, and no read that it inserted
 no_commit_of_begin : (new : Core) → Changes idle line.Begin reply.Committed new → ⊥
 no_commit_of_begin new changes = changes.0
 
@@ -138,7 +147,7 @@ commits = refl
 commits_none : (IsCommitOf idle line.Commit → ⊥) × (IsCommitOf busy line.Begin → ⊥)
 commits_none = (λ is. true≢false (sym is), λ is. is)
 
--- the last id is 4294967295: behind it a begin outside of a transaction lacks one, and before it none does
+-- the last id is 4294967295: after it a begin outside of a transaction lacks one, and before it none does
 spent : LacksIds (record { pages = []; next = 4294967296; active = false }) line.Begin (record { 0 = 4294967295 })
 spent = (refl, refl, refl)
 

@@ -16,7 +16,7 @@ use Rattle.rm_session.specs.Session.{IsPlaceFor, Core}
 use Rattle.rm_model.proofs.Slots.{used-set_slot_end}
 use Rattle.rm_model.proofs.FileLaws.{rows_of-set_row}
 use Rattle.rm_record.specs.declared.records.LogRecord.TheVariants.{Insert, Commit}
-use Rattle.rm_history.specs.Acts.{Change, History, changes, undoes, enters, commits, ends, lists, act_at, newest_lsn}
+use Rattle.rm_history.specs.Acts.{Change, History, changes, undoes, enters, commits, ends, marks, act_at, newest_lsn}
 use Rattle.rm_history.specs.Contents.{page_of}
 use Rattle.rm_history.specs.Pending.{pending_of, last_of}
 use Rattle.rm_history.specs.Transactions.{greatest_txn, IsFinished}
@@ -37,7 +37,7 @@ finished_greatest (commits f ∷ before) id (inl now) = omega (arith, now)
 finished_greatest (commits f ∷ before) id (inr earlier) = omega (arith, finished_greatest before id earlier)
 finished_greatest (ends f ∷ before) id (inl now) = omega (arith, now)
 finished_greatest (ends f ∷ before) id (inr earlier) = omega (arith, finished_greatest before id earlier)
-finished_greatest (lists l ∷ before) id finished = finished_greatest before id finished
+finished_greatest (marks m ∷ before) id finished = finished_greatest before id finished
 
 module _ (file_pages count : ℕ) (rows : Rows) (core : Core) (under inserts : ℕ) (history : History) (at : IsAtHistory file_pages count rows core under inserts history) where
   -- a transaction is begun

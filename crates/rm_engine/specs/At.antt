@@ -21,7 +21,7 @@ use Rattle.rm_history.specs.Transactions.{greatest_txn, IsFinished}
 use Rattle.rm_history.specs.Rows.{applied, rows_of_log}
 use Rattle.rm_history.specs.Counts.{commit_count}
 use Rattle.rm_history.specs.Rules.{IsInOrder}
-use Rattle.rm_history.specs.Batched.{acts_behind, acts_of_batches, AreBelow}
+use Rattle.rm_history.specs.Batched.{acts_after, acts_of_batches, AreBelow}
 use Rattle.rm_restart.specs.Plain.{ArePlain}
 use Rattle.rm_restart.specs.Sound.{IsImageOf, IsSoundLog, Holds}
 
@@ -53,7 +53,7 @@ pub record IsAtHistory (file_pages count : ℕ) (rows : Rows) (core : Core) (und
 
 -- the history of the batches that stand, and of the tail behind them
 abbrev pub whole_history : List Batch → Batch → History
-whole_history batches tail = acts_behind (acts_of_batches batches) (gate_of batches + BATCH_HEADER) tail
+whole_history batches tail = acts_after (acts_of_batches batches) (gate_of batches + BATCH_HEADER) tail
 
 -- The session stands behind so many commits, which left these rows; each image that a crash may leave has them.
 pub record IsAt (file_pages count : ℕ) (rows : Rows) (core : Core) (log : LogValue) (under inserts : ℕ) (left : Image → Type 0) : Type 0 where

@@ -5,7 +5,7 @@ ghost use Rattle.rm_types.specs.declared.areas.Area.{Area as Areas};
 ghost use Rattle.rm_types.specs.declared.faults.Fault.{Fault as Faults};
 ghost use Rattle.rm_types.specs.declared.numbers.TheConstants.{MAX_PAGES, MAX_SLOT, MAX_LOG};
 ghost use Rattle.rm_outside.specs.Images.{Image};
-ghost use Rattle.rm_outside.specs.Faults.{Rises};
+ghost use Rattle.rm_outside.specs.Calls.{IsFaultIn};
 ghost use Rattle.rm_outside.specs.Moments.{IsDurable, LeavesOnly};
 ghost use Rattle.rm_model.specs.Object.{Rows};
 ghost use Rattle.rm_types.specs.declared.numbers.TxnId.{TxnId as Txns};
@@ -80,7 +80,7 @@ impl Engine {
             → IsAt pages count rows self.old.session.core self.old.log self.old.under.0 self.old.inserts (V.may_leave volume.old)
             → LeavesOnly (V.moment volume.old) (V.moment volume.new) (V.left_since volume.old) (V.left_since volume.new) (Holds count rows) }
 
-        ensures cause { (fault : Faults) → result ≡ Err fault → (fault ≡ Fault.Volume Area.Log) × Rises (V.faults volume.old Area.Log) (V.faults volume.new Area.Log) }
+        ensures cause { (fault : Faults) → result ≡ Err fault → IsFaultIn Area.Log (V.faults volume.old) (V.faults volume.new) fault }
         ensures counts { (area : Areas) → V.faults volume.old area ≤ V.faults volume.new area }
         ensures data_reads { V.data_reads volume.new ≡ V.data_reads volume.old }
         ensures same { V.reference volume.new ≡ V.reference volume.old }
@@ -120,7 +120,7 @@ impl Engine {
             → IsAt pages count rows self.old.session.core self.old.log self.old.under.0 self.old.inserts (V.may_leave volume.old)
             → LeavesOnly (V.moment volume.old) (V.moment volume.new) (V.left_since volume.old) (V.left_since volume.new) (Holds count rows) }
 
-        ensures cause { (fault : Faults) → result ≡ Err (TurnFault.Fault fault) → (fault ≡ Fault.Volume Area.Log) × Rises (V.faults volume.old Area.Log) (V.faults volume.new Area.Log) }
+        ensures cause { (fault : Faults) → result ≡ Err (TurnFault.Fault fault) → IsFaultIn Area.Log (V.faults volume.old) (V.faults volume.new) fault }
         ensures counts { (area : Areas) → V.faults volume.old area ≤ V.faults volume.new area }
         ensures data_reads { V.data_reads volume.new ≡ V.data_reads volume.old }
         ensures same { V.reference volume.new ≡ V.reference volume.old }
@@ -163,7 +163,7 @@ impl Engine {
             → IsAt pages count rows self.old.session.core self.old.log self.old.under.0 self.old.inserts (V.may_leave volume.old)
             → LeavesOnly (V.moment volume.old) (V.moment volume.new) (V.left_since volume.old) (V.left_since volume.new) (Holds count rows) }
 
-        ensures cause { (fault : Faults) → result ≡ Err (TurnFault.Fault fault) → (fault ≡ Fault.Volume Area.Log) × Rises (V.faults volume.old Area.Log) (V.faults volume.new Area.Log) }
+        ensures cause { (fault : Faults) → result ≡ Err (TurnFault.Fault fault) → IsFaultIn Area.Log (V.faults volume.old) (V.faults volume.new) fault }
         ensures counts { (area : Areas) → V.faults volume.old area ≤ V.faults volume.new area }
         ensures data_reads { V.data_reads volume.new ≡ V.data_reads volume.old }
         ensures same { V.reference volume.new ≡ V.reference volume.old }
@@ -200,7 +200,7 @@ impl Engine {
             → IsAt pages count rows self.old.session.core self.old.log self.old.under.0 self.old.inserts (V.may_leave volume.old)
             → LeavesOnly (V.moment volume.old) (V.moment volume.new) (V.left_since volume.old) (V.left_since volume.new) (Holds count rows) }
 
-        ensures cause { (fault : Faults) → result ≡ Err (TurnFault.Fault fault) → (fault ≡ Fault.Volume Area.Log) × Rises (V.faults volume.old Area.Log) (V.faults volume.new Area.Log) }
+        ensures cause { (fault : Faults) → result ≡ Err (TurnFault.Fault fault) → IsFaultIn Area.Log (V.faults volume.old) (V.faults volume.new) fault }
         ensures counts { (area : Areas) → V.faults volume.old area ≤ V.faults volume.new area }
         ensures data_reads { V.data_reads volume.new ≡ V.data_reads volume.old }
         ensures same { V.reference volume.new ≡ V.reference volume.old }
@@ -240,7 +240,7 @@ impl Engine {
 
         ensures full { (end : ℕ) → result ≡ Err (TurnFault.LogFull end) → ⊥ }
         ensures spent { (last : Txns) → result ≡ Err (TurnFault.TxnsSpent last) → ⊥ }
-        ensures cause { (fault : Faults) → result ≡ Err (TurnFault.Fault fault) → (fault ≡ Fault.Volume Area.Log) × Rises (V.faults volume.old Area.Log) (V.faults volume.new Area.Log) }
+        ensures cause { (fault : Faults) → result ≡ Err (TurnFault.Fault fault) → IsFaultIn Area.Log (V.faults volume.old) (V.faults volume.new) fault }
         ensures counts { (area : Areas) → V.faults volume.old area ≤ V.faults volume.new area }
         ensures data_reads { V.data_reads volume.new ≡ V.data_reads volume.old }
         ensures same { V.reference volume.new ≡ V.reference volume.old }
@@ -298,7 +298,7 @@ impl Engine {
         ensures room { OnOk result ((end : ℕ) → LacksRoom self.old.log.limit self.old.session.core (used_of self.old.log self.old.inserts) line.now end → ⊥) }
         ensures full { (end : ℕ) → result ≡ Err (TurnFault.LogFull end) → LacksRoom self.old.log.limit self.old.session.core (used_of self.old.log self.old.inserts) line.now end }
         ensures spent { (last : Txns) → result ≡ Err (TurnFault.TxnsSpent last) → LacksIds self.old.session.core line.now last }
-        ensures cause { (fault : Faults) → result ≡ Err (TurnFault.Fault fault) → (fault ≡ Fault.Volume Area.Log) × Rises (V.faults volume.old Area.Log) (V.faults volume.new Area.Log) }
+        ensures cause { (fault : Faults) → result ≡ Err (TurnFault.Fault fault) → IsFaultIn Area.Log (V.faults volume.old) (V.faults volume.new) fault }
         ensures counts { (area : Areas) → V.faults volume.old area ≤ V.faults volume.new area }
         ensures data_reads { V.data_reads volume.new ≡ V.data_reads volume.old }
         ensures same { V.reference volume.new ≡ V.reference volume.old }

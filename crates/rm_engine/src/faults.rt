@@ -5,16 +5,21 @@ ghost use Rattle.rm_engine.specs.declared.faults.TurnFault.TheVariants.{Fault as
 
 use rm_types::{Fault, NoMemory, TxnId};
 use rm_wal::LogFull;
+use thiserror::Error;
 
 /// Why a turn was not made. The session ends there.
-#[derive(Clone, Copy, Debug, PartialEq, Eq)]
+#[derive(Clone, Copy, Debug, PartialEq, Eq, Error)]
 pub enum TurnFault {
     /// The volume failed. It is to be opened again.
+    #[error("{0}")]
     Fault(Fault),
     /// The log has no room for the turn; it would go on at `end`.
+    #[error("the log has no room after byte {end}")]
     LogFull { end: u64 },
     /// Every id was given; `last` was the last.
+    #[error("every transaction id up to {} was given", .last.0)]
     TxnsSpent { last: TxnId },
+    #[error("out of memory")]
     NoMemory,
 }
 

@@ -10,6 +10,3 @@ mod room;
 pub use engine::Engine;
 pub use faults::TurnFault;
 pub use room::{CHANGE_COST, COMMIT_SIZE, INSERT_SIZE, OWED};
-
-#[cfg(test)]
-mod tests;

@@ -6,7 +6,7 @@ ghost use Rattle.rm_types.specs.declared.faults.Fault.{Fault as Faults};
 ghost use Rattle.rm_types.specs.declared.numbers.TheConstants.{MAX_LOG};
 ghost use Rattle.rm_types.specs.declared.numbers.TxnId.{TxnId as Txns};
 ghost use Rattle.rm_outside.specs.Images.{Image};
-ghost use Rattle.rm_outside.specs.Faults.{Rises};
+ghost use Rattle.rm_outside.specs.Calls.{IsFaultIn};
 ghost use Rattle.rm_outside.specs.Moments.{IsDurable, LeavesOnly};
 ghost use Rattle.rm_record.specs.Records.{IsRecord, spelling};
 ghost use Rattle.rm_record.specs.declared.records.LogRecord.TheVariants.{Insert, Commit};
@@ -82,7 +82,7 @@ pub(crate) fn log_commit<V: Volume>(
     ensures logs_ok { OnOk result ((batches : List Batch) (batch : Batch) → Tails log.old.batch (log.old.tail ++ spelling (Commit (txn_of_next next))) (V.may_leave volume.old) batches batch
         → (c : Image) → V.may_leave volume.new c → HasLog (c Area.Log) (batch ∷ batches)) }
 
-    ensures cause { (fault : Faults) → result ≡ Err (TurnFault.Fault fault) → (fault ≡ Fault.Volume Area.Log) × Rises (V.faults volume.old Area.Log) (V.faults volume.new Area.Log) }
+    ensures cause { (fault : Faults) → result ≡ Err (TurnFault.Fault fault) → IsFaultIn Area.Log (V.faults volume.old) (V.faults volume.new) fault }
     ensures full { (end : ℕ) → result ≡ Err (TurnFault.LogFull end) → ⊥ }
     ensures spent { (last : Txns) → result ≡ Err (TurnFault.TxnsSpent last) → ⊥ }
     ensures counts { (area : Areas) → V.faults volume.old area ≤ V.faults volume.new area }

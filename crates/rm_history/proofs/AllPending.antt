@@ -62,22 +62,23 @@ pending_of_finished txn f mine all is = elim (cases_eq f.txn txn) [
 ]
 
 -- a transaction's pending changes are those of all that are its own
-pub pending_of-all : (history : History) (txn : ℕ) → pending_of history txn ≡ of_txn txn (all_pending history)
-pending_of-all [] txn = refl
-pending_of-all (changes c ∷ before) txn = ap (λ (rest : List Change). cond (eqb c.txn txn) (c ∷ rest) rest) (pending_of-all before txn)
-pending_of-all (undoes u ∷ before) txn = pending_of_undone txn u (pending_of before txn) (all_pending before) (pending_of-all before txn)
-pending_of-all (enters e ∷ before) txn = pending_of-all before txn
-pending_of-all (commits f ∷ before) txn = pending_of_finished txn f (pending_of before txn) (all_pending before) (pending_of-all before txn)
-pending_of-all (ends f ∷ before) txn = pending_of_finished txn f (pending_of before txn) (all_pending before) (pending_of-all before txn)
-pending_of-all (marks m ∷ before) txn = pending_of-all before txn
+pub pending_of_all : (history : History) (txn : ℕ) → pending_of history txn ≡ of_txn txn (all_pending history)
+pending_of_all [] txn = refl
+pending_of_all (changes c ∷ before) txn = ap (λ (rest : List Change). cond (eqb c.txn txn) (c ∷ rest) rest) (pending_of_all before txn)
+pending_of_all (undoes u ∷ before) txn = pending_of_undone txn u (pending_of before txn) (all_pending before) (pending_of_all before txn)
+pending_of_all (enters e ∷ before) txn = pending_of_all before txn
+pending_of_all (commits f ∷ before) txn = pending_of_finished txn f (pending_of before txn) (all_pending before) (pending_of_all before txn)
+pending_of_all (ends f ∷ before) txn = pending_of_finished txn f (pending_of before txn) (all_pending before) (pending_of_all before txn)
+pending_of_all (marks m ∷ before) txn = pending_of_all before txn
 
 -- the transaction of the newest of all has it as its newest
-pub pending_of-newest : (history : History) (last : Change) (rest : List Change) → all_pending history ≡ last ∷ rest → pending_of history last.txn ≡ last ∷ of_txn last.txn rest
-pending_of-newest history last rest is = pending_of-all history last.txn ∙ ap (of_txn last.txn) is ∙ of_txn-newest last rest
+pub pending_of-newest : (history : History) (last : Change) (rest : List Change) → all_pending history ≡ last ∷ rest
+    → pending_of history last.txn ≡ last ∷ of_txn last.txn rest
+pending_of-newest history last rest is = pending_of_all history last.txn ∙ ap (of_txn last.txn) is ∙ of_txn-newest last rest
 
 -- where none is pending at all, no transaction has one
 pub pending_of-none : (history : History) → all_pending history ≡ [] → (txn : ℕ) → pending_of history txn ≡ []
-pending_of-none history none txn = pending_of-all history txn ∙ ap (of_txn txn) none
+pending_of-none history none txn = pending_of_all history txn ∙ ap (of_txn txn) none
 
 -- ---- undoing the newest leaves the others
 

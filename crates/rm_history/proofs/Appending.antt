@@ -10,10 +10,11 @@ use Rattle.rm_history.specs.Acts.{History, act_at, act_of, acts_onto, acts_of, l
 use Rattle.rm_history.specs.Batched.{acts_after, acts_of_batches}
 use Rattle.rm_history.proofs.Readings.{spelling_long}
 
-pub length-spelling_all : (next : LogRecord) (records : List LogRecord) → length (spelling_all (next ∷ records)) ≡ length (spelling next) + length (spelling_all records)
+pub length-spelling_all : (next : LogRecord) (records : List LogRecord)
+    → length (spelling_all (next ∷ records)) ≡ length (spelling next) + length (spelling_all records)
 length-spelling_all next records = length-append (spelling next) (spelling_all records)
 
--- ---- records behind a history
+-- ---- records after a history
 
 -- first some records, then others
 pub acts_after-append : (history : History) (at : ℕ) (first second : List LogRecord)
@@ -53,14 +54,15 @@ lsn_of-act_at at (Commit txn) = refl
 lsn_of-act_at at (End txn) = refl
 lsn_of-act_at at (Checkpoint next losers pages blocks) = refl
 
--- it is below the offset where the next record comes, behind some records
-pub newest_below : (history : History) (at : ℕ) (records : List LogRecord) → newest_lsn history < at → newest_lsn (acts_after history at records) < at + length (spelling_all records)
+-- it is below the offset where the next record comes, after some records
+pub newest_below : (history : History) (at : ℕ) (records : List LogRecord) → newest_lsn history < at
+    → newest_lsn (acts_after history at records) < at + length (spelling_all records)
 newest_below history at [] below = omega arith
 newest_below history at (next ∷ records) below =
     let rest = newest_below (act_at at next ∷ history) (at + length (spelling next)) records (omega (arith, lsn_of-act_at at next, spelling_long next)) in
     omega (arith, rest, length-spelling_all next records)
 
--- and behind some batches
+-- and after some batches
 pub newest_of_batches : (batches : List Batch) → newest_lsn (acts_of_batches batches) < gate_of batches + BATCH_HEADER
 newest_of_batches [] = omega arith
 newest_of_batches (batch ∷ batches) = omega (arith, newest_below (acts_of_batches batches) (gate_of batches + BATCH_HEADER) batch (newest_of_batches batches))

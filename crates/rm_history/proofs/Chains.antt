@@ -2,7 +2,8 @@
 use Rattle.std.proofs.Common.{◌≡◌, inl, inr, ℕ, ◌<◌, List, [], ◌∷◌, length, refl, sym, subst}
 use Rattle.rm_types.specs.declared.numbers.Rid.{Rid}
 use Rattle.rm_history.specs.Acts.{Change, History, changes, undoes, enters, commits, ends, marks}
-use Rattle.rm_history.specs.Contents.{slot_at, page_of}
+use Rattle.rm_model.specs.Pages.{slot_at}
+use Rattle.rm_history.specs.Contents.{page_of}
 use Rattle.rm_history.specs.Pending.{pending_of}
 use Rattle.rm_history.specs.Transactions.{IsFinished}
 use Rattle.rm_history.specs.Rows.{rows_of_log}
@@ -28,11 +29,13 @@ leads_back history ordered rid txn changed = all_lead history ordered rid txn (a
 -- ---- a transaction's last pending change
 
 -- it is on its row id
-pub last_is_changed : (history : History) (txn : ℕ) (last : Change) (rest : List Change) → pending_of history txn ≡ last ∷ rest → IsChanged (pending_of history txn) last.rid
+pub last_is_changed : (history : History) (txn : ℕ) (last : Change) (rest : List Change) → pending_of history txn ≡ last ∷ rest
+    → IsChanged (pending_of history txn) last.rid
 last_is_changed history txn last rest is = subst (λ (l : List Change). IsChanged l last.rid) (sym is) (inl refl)
 
 -- it left what its row id holds
-left_there : (last : Change) (rest : List Change) (history : History) → LeadsBack last.rid (held_in history last.rid) (last ∷ rest) (rows_of_log history last.rid) → held_in history last.rid ≡ last.after
+left_there : (last : Change) (rest : List Change) (history : History)
+    → LeadsBack last.rid (held_in history last.rid) (last ∷ rest) (rows_of_log history last.rid) → held_in history last.rid ≡ last.after
 left_there last rest history (inl here) = sym here.1
 left_there last rest history (inr elsewhere) = absurd (elsewhere.0 refl)
 
@@ -47,7 +50,8 @@ last_is_held history ordered txn last rest is =
 pub changed_is_inside : (history : History) (txn : ℕ) (rid : Rid) → IsChanged (pending_of history txn) rid → rid.slot < length (page_of history rid.page)
 changed_is_inside history txn rid changed = changed_inside history txn rid (changed_has_change history txn rid changed)
 
-pub last_is_inside : (history : History) (txn : ℕ) (last : Change) (rest : List Change) → pending_of history txn ≡ last ∷ rest → last.rid.slot < length (page_of history last.rid.page)
+pub last_is_inside : (history : History) (txn : ℕ) (last : Change) (rest : List Change) → pending_of history txn ≡ last ∷ rest
+    → last.rid.slot < length (page_of history last.rid.page)
 last_is_inside history txn last rest is = changed_is_inside history txn last.rid (last_is_changed history txn last rest is)
 
 -- it is of its transaction, as the rest are
@@ -58,5 +62,6 @@ pub rest_is_of : (history : History) (txn : ℕ) (last : Change) (rest : List Ch
 rest_is_of history txn last rest is = (subst (AreOf txn) is (pending_are_of history txn)).1
 
 -- the transaction is not finished
-pub last_is_unfinished : (history : History) → IsInOrder history → (txn : ℕ) (last : Change) (rest : List Change) → pending_of history txn ≡ last ∷ rest → IsFinished history txn → ⊥
+pub last_is_unfinished : (history : History) → IsInOrder history → (txn : ℕ) (last : Change) (rest : List Change)
+    → pending_of history txn ≡ last ∷ rest → IsFinished history txn → ⊥
 last_is_unfinished history ordered txn last rest is = changed_unfinished history ordered txn last.rid (last_is_changed history txn last rest is)

@@ -1,11 +1,12 @@
 -- An LSN names one change, and a compensation names one that was logged before it.
 use Rattle.std.proofs.Common.{◌≡◌, inl, inr, ℕ, ◌<◌, ◌≤◌, true, false, eqb, List, [], ◌∷◌, refl, sym, subst, ◌∙◌, arith}
 use Rattle.std.specs.List.{AllByRecursion}
-use Rattle.std.proofs.lemmas.Bool.{true≢false, cond_both, or_cases, eqb-true, false_from_ne_true}
-use Rattle.rm_history.specs.Acts.{Change, Undo, History, changes, undoes, commits, ends, newest_lsn}
-use Rattle.rm_history.specs.Pending.{older, pending_of}
+use Rattle.std.proofs.lemmas.Bool.{true≢false, or_cases, eqb-true, false_from_ne_true}
+use Rattle.rm_history.specs.Acts.{Act, Change, Undo, History, changes, undoes, newest_lsn}
+use Rattle.rm_history.specs.Pending.{pending_of}
 use Rattle.rm_history.specs.Rules.{MayUndo, IsInOrder}
 use Rattle.rm_history.specs.Literal.{is_undone}
+use Rattle.rm_history.proofs.PendingInduction.{pending_by}
 use Rattle.rm_history.proofs.NetLists.{HasLogged}
 
 -- no change is above the newest record
@@ -30,33 +31,33 @@ logged_once (act ∷ before) lsn txn other in_order had other_had = logged_once 
 abbrev AreLogged : History → ℕ → List Change → Type 0
 AreLogged history txn listed = AllByRecursion (λ (c : Change). HasLogged history c.lsn txn) listed
 
--- also for all but the newest
-older_are_logged : (history : History) (txn : ℕ) (listed : List Change) → AreLogged history txn listed → AreLogged history txn (older listed)
-older_are_logged history txn [] are = tt
-older_are_logged history txn (newest ∷ before) are = are.1
+-- it has one as records come
+logged_stays : (lsn txn : ℕ) (act : Act) (before : History) → HasLogged before lsn txn → HasLogged (act ∷ before) lsn txn
+logged_stays lsn txn (changes c) before had = inr had
+logged_stays lsn txn other before had = had
 
--- what is pending behind some of the records of a history was logged there
-pending_are_logged : (whole history : History) (txn : ℕ) → ((lsn : ℕ) → HasLogged history lsn txn → HasLogged whole lsn txn) → AreLogged whole txn (pending_of history txn)
-pending_are_logged whole [] txn within = tt
-pending_are_logged whole (changes c ∷ before) txn within =
-    let rest : AreLogged whole txn (pending_of before txn) = pending_are_logged whole before txn (λ lsn had. within lsn (inr had)) in
-    cond_both (eqb c.txn txn) (c ∷ pending_of before txn) (pending_of before txn) (λ (l : List Change). AreLogged whole txn l)
-    (λ mine. (within c.lsn (inl (refl, eqb-true c.txn txn mine)), rest)) (λ other. rest)
-pending_are_logged whole (undoes u ∷ before) txn within =
-    let rest : AreLogged whole txn (pending_of before txn) = pending_are_logged whole before txn within in
-    cond_both (eqb u.txn txn) (older (pending_of before txn)) (pending_of before txn) (λ (l : List Change). AreLogged whole txn l)
-    (λ mine. older_are_logged whole txn (pending_of before txn) rest) (λ other. rest)
-pending_are_logged whole (commits f ∷ before) txn within =
-    cond_both (eqb f.txn txn) [] (pending_of before txn) (λ (l : List Change). AreLogged whole txn l) (λ mine. tt) (λ other. pending_are_logged whole before txn within)
-pending_are_logged whole (ends f ∷ before) txn within =
-    cond_both (eqb f.txn txn) [] (pending_of before txn) (λ (l : List Change). AreLogged whole txn l) (λ mine. tt) (λ other. pending_are_logged whole before txn within)
-pending_are_logged whole (other ∷ before) txn within = pending_are_logged whole before txn within
+all_stay : (act : Act) (before : History) (txn : ℕ) (listed : List Change) → AreLogged before txn listed → AreLogged (act ∷ before) txn listed
+all_stay act before txn [] are = tt
+all_stay act before txn (newest ∷ rest) are = (logged_stays newest.lsn txn act before are.0, all_stay act before txn rest are.1)
+
+-- what is pending was logged
+pending_are_logged : (history : History) (txn : ℕ) → AreLogged history txn (pending_of history txn)
+pending_are_logged history txn =
+    pending_by (λ h. Unit {0}) AreLogged
+    (record {
+      known = λ act before known. tt;
+      none = λ h t. tt;
+      stays = all_stay;
+      less = λ h t newest rest are. are.1;
+      more = λ c before known are. (inl (refl, refl), all_stay (changes c) before c.txn (pending_of before c.txn) are);
+    })
+    history tt txn
 
 -- a compensation names a change of its own transaction
 pub undone_is_logged : (before : History) (u : Undo) → MayUndo before u → HasLogged before u.undone u.txn
 undone_is_logged before u may =
     let are : AreLogged before u.txn (may.last ∷ may.is_last.0) =
-    subst (λ (l : List Change). AreLogged before u.txn l) may.is_last.1 (pending_are_logged before before u.txn (λ lsn had. had)) in
+    subst (λ (l : List Change). AreLogged before u.txn l) may.is_last.1 (pending_are_logged before u.txn) in
     subst (λ (n : ℕ). HasLogged before n u.txn) (sym may.undone_is) are.0
 
 -- so what is undone is not above the newest record

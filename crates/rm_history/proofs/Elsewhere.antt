@@ -6,7 +6,7 @@ use Rattle.rm_history.specs.Acts.{Change, Undo, Entry, Finish, History, changes,
 use Rattle.rm_history.specs.Contents.{page_of, entry_of}
 use Rattle.rm_history.specs.Pending.{pending_of}
 use Rattle.rm_history.specs.Transactions.{IsFinished, HasRecord, HasChange}
-use Rattle.rm_history.proofs.PendingSteps.{if_different, pending-change_other, pending-undo_other, pending-commit_other, pending-end_other}
+use Rattle.rm_history.proofs.PendingSteps.{if_different, pending-change_other, pending-undo_other, pending-commit_other}
 
 -- What a transaction's record leaves: of the other transactions all, and of the pages all but its own.
 pub record Elsewhere (old new : History) (txn : ℕ) (Mine : ℕ → Type 0) : Type 0 where
@@ -83,12 +83,14 @@ elsewhere-commit f old Mine = record {
 }
 
 pub elsewhere-end : (f : Finish) (old : History) (Mine : ℕ → Type 0) → Elsewhere old (ends f ∷ old) f.txn Mine
-elsewhere-end f old Mine = record {
-  pending = λ other differs. pending-end_other f old other (λ same. differs (sym same));
-  finished = λ other differs is. earlier_finish f.txn other (IsFinished old other) differs is;
-  still = λ any is. inr is;
-  pages = λ page not. refl;
-  entries = λ page not. refl;
-  records = λ any has. has;
-  changed = λ other rid differs has. has;
-}
+elsewhere-end f old Mine =
+    let like = elsewhere-commit f old Mine in
+    record {
+      pending = like.pending;
+      finished = like.finished;
+      still = like.still;
+      pages = like.pages;
+      entries = like.entries;
+      records = like.records;
+      changed = like.changed;
+    }

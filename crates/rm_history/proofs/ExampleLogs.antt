@@ -7,7 +7,7 @@ use Rattle.rm_history.specs.Acts.{Act, History, changes, undoes, enters, commits
 
 -- ---- records
 
--- a slot that holds a row of so many bytes
+-- a slot that holds a row of this many bytes
 abbrev pub row : ℕ → Slot
 row len = Row (replicate len 97)
 
@@ -103,7 +103,9 @@ falls_behind = commit 1077 2 ∷ enter 1067 2 0 1 ∷ insert 528 2 0 (at 0 1) 0 
 
 -- transaction 1 commits 1,000 bytes, 2 has 20 pending and the category that the page has with both, and 3 commits 100 more
 abbrev pub stays_behind : History
-stays_behind = commit 1214 3 ∷ insert 1091 3 0 (at 0 2) 0 100 ∷ enter 1081 2 0 1 ∷ insert 1038 2 0 (at 0 1) 0 20 ∷ commit 1028 1 ∷ insert 5 1 0 (at 0 0) 0 1000 ∷ []
+stays_behind =
+    commit 1214 3 ∷ insert 1091 3 0 (at 0 2) 0 100 ∷ enter 1081 2 0 1 ∷ insert 1038 2 0 (at 0 1) 0 20 ∷ commit 1028 1 ∷ insert 5 1 0
+    (at 0 0) 0 1000 ∷ []
 
 -- transaction 1 has 500 and 600 bytes pending, and the category that the page has with both
 abbrev pub two_pending : History

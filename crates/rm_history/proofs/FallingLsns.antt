@@ -5,7 +5,7 @@ use Rattle.rm_history.specs.Acts.{Change, History, changes, undoes, enters, comm
 use Rattle.rm_history.specs.Pending.{pending_of, of_txn, without_newest, without, all_pending, last_of, AreFalling}
 use Rattle.rm_history.specs.Rules.{IsInOrder}
 use Rattle.rm_history.specs.Laws.{AllPendingIsOfEach}
-use Rattle.rm_history.proofs.AllPending.{pending_of-all}
+use Rattle.rm_history.proofs.AllPending.{pending_of_all}
 
 -- the LSNs fall, from this one at the most
 abbrev FallFrom : ℕ → List Change → Type 0
@@ -59,8 +59,8 @@ pub pending_falls : (history : History) → IsInOrder history → (txn : ℕ) �
 pending_falls history ordered txn =
     let all = all_pending_falls history ordered in
     let mine = of_txn_falls txn (all_pending history) all.0 in
-    subst (FallFrom (newest_lsn history)) (sym (pending_of-all history txn)) (mine.0, omega (arith, mine.1, all.1))
+    subst (FallFrom (newest_lsn history)) (sym (pending_of_all history txn)) (mine.0, omega (arith, mine.1, all.1))
 
 -- all that is pending is what is pending of each transaction
 pub all_pending_is_of_each : AllPendingIsOfEach
-all_pending_is_of_each = record { each = λ history txn. sym (pending_of-all history txn); falling = λ history ordered. (all_pending_falls history ordered).0 }
+all_pending_is_of_each = record { each = λ history txn. sym (pending_of_all history txn); falling = λ history ordered. (all_pending_falls history ordered).0 }

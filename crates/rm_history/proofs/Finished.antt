@@ -2,7 +2,7 @@
 use Rattle.std.proofs.Common.{◌≡◌, ◌⊎◌, inl, inr, ℕ, List, [], ◌∷◌, refl}
 use Rattle.std.proofs.lemmas.Bool.{cases_eq}
 use Rattle.rm_types.specs.declared.numbers.Rid.{Rid}
-use Rattle.rm_history.specs.Acts.{Change, History, changes, undoes, enters, commits, ends, marks}
+use Rattle.rm_history.specs.Acts.{Act, Change, History, changes, undoes, enters, commits, ends, marks}
 use Rattle.rm_history.specs.Pending.{pending_of}
 use Rattle.rm_history.specs.Transactions.{IsFinished, HasRecord, HasChange}
 use Rattle.rm_history.proofs.PendingLaws.{changed_has_change}
@@ -44,6 +44,15 @@ change_has_record (enters e ∷ before) txn rid = λ has. inr (change_has_record
 change_has_record (commits f ∷ before) txn rid = λ has. inr (change_has_record before txn rid has)
 change_has_record (ends f ∷ before) txn rid = λ has. inr (change_has_record before txn rid has)
 change_has_record (marks m ∷ before) txn rid = change_has_record before txn rid
+
+-- a record stays as records come
+pub record_stays : (txn : ℕ) (act : Act) (before : History) → HasRecord before txn → HasRecord (act ∷ before) txn
+record_stays txn (changes c) before has = inr has
+record_stays txn (undoes u) before has = inr has
+record_stays txn (enters e) before has = inr has
+record_stays txn (commits f) before has = inr has
+record_stays txn (ends f) before has = inr has
+record_stays txn (marks m) before has = has
 
 -- so a transaction with something pending has one,
 pub last_has_record : (history : History) (txn : ℕ) (last : Change) (rest : List Change) → pending_of history txn ≡ last ∷ rest → HasRecord history txn

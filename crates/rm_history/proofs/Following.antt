@@ -53,7 +53,8 @@ entries_follow_undo start before u may entered follow page = elim (cases_eq u.ri
 ]
 
 -- the page that is entered has a pending change
-pub entries_follow_entry : (start : Format) (before : History) (e : Entry) → MayEnter before e → EntriesFollow start before → EntriesFollow start (enters e ∷ before)
+pub entries_follow_entry : (start : Format) (before : History) (e : Entry) → MayEnter before e → EntriesFollow start before
+    → EntriesFollow start (enters e ∷ before)
 entries_follow_entry start before e may follow page = elim (cases_eq e.page page) [
   | inl here ↦ inr (pending_there before e.txn may.last may.is_last.0 page may.is_last.1 (may.page_is ∙ here))
   | inr other ↦ follows_as_before start before (enters e ∷ before) page (rw (ne_eqb e.page page other) refl) refl (λ txn. refl) (follow page)

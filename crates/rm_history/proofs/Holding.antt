@@ -3,9 +3,9 @@ use Rattle.std.proofs.Common.{◌≡◌, List, refl, sym, ap, subst, ◌∙◌}
 use Rattle.rm_types.specs.declared.numbers.Rid.{Rid}
 use Rattle.rm_types.specs.declared.slots.Slot.{Slot}
 use Rattle.rm_types.specs.declared.slots.Slot.TheVariants.{Vacant, Row}
-use Rattle.rm_model.specs.Pages.{row_of}
+use Rattle.rm_model.specs.Pages.{row_of, slot_at}
 use Rattle.rm_history.specs.Acts.{Change}
-use Rattle.rm_history.specs.Contents.{slot_at, slot_of, page_of}
+use Rattle.rm_history.specs.Contents.{slot_of, page_of}
 use Rattle.rm_history.specs.Pending.{pending_of}
 use Rattle.rm_history.specs.Rows.{rows_of_log}
 use Rattle.rm_history.specs.Laws.{IsChanged, PagesHoldWhatIsPending, PagesHoldWhatIsCommitted, SettledWhenNothingIsPending}

@@ -20,17 +20,20 @@ LeadsBack rid held (newest ∷ before) row =
     ⊎ ((newest.rid ≡ rid → ⊥) × LeadsBack rid held before row)
 
 -- from what is the same, through the same, to the same
-pub same_way : (rid : Rid) (held other : Slot) (pending changed : List Change) (row : Option (List ℕ)) → held ≡ other → pending ≡ changed → LeadsBack rid held pending row → LeadsBack rid other changed row
+pub same_way : (rid : Rid) (held other : Slot) (pending changed : List Change) (row : Option (List ℕ)) → held ≡ other → pending ≡ changed
+    → LeadsBack rid held pending row → LeadsBack rid other changed row
 same_way rid held other pending changed row held_same changed_same leads =
     subst (λ (s : Slot). LeadsBack rid s changed row) held_same (subst (λ (l : List Change). LeadsBack rid held l row) changed_same leads)
 
 -- where none is on the row id it holds the row
-pub unchanged_row : (rid : Rid) (held : Slot) (pending : List Change) (row : Option (List ℕ)) → (IsChanged pending rid → ⊥) → LeadsBack rid held pending row → row_of held ≡ row
+pub unchanged_row : (rid : Rid) (held : Slot) (pending : List Change) (row : Option (List ℕ)) → (IsChanged pending rid → ⊥)
+    → LeadsBack rid held pending row → row_of held ≡ row
 unchanged_row rid held [] row free leads = leads
 unchanged_row rid held (newest ∷ before) row free (inl here) = absurd (free (inl here.0))
 unchanged_row rid held (newest ∷ before) row free (inr elsewhere) = unchanged_row rid held before row (λ changed. free (inr changed)) elsewhere.1
 
-pub unchanged_leads : (rid : Rid) (held : Slot) (pending : List Change) (row : Option (List ℕ)) → (IsChanged pending rid → ⊥) → row_of held ≡ row → LeadsBack rid held pending row
+pub unchanged_leads : (rid : Rid) (held : Slot) (pending : List Change) (row : Option (List ℕ)) → (IsChanged pending rid → ⊥)
+    → row_of held ≡ row → LeadsBack rid held pending row
 unchanged_leads rid held [] row free is = is
 unchanged_leads rid held (newest ∷ before) row free is =
     inr ((λ same. free (inl same)), unchanged_leads rid held before row (λ changed. free (inr changed)) is)
@@ -56,10 +59,12 @@ other_place_at place rid other = elim (cases_Bool (is_same_place place rid)) [
   | inr different ↦ different
 ]
 
-pub applied_leads : (rows : Rows) (rid : Rid) (held : Slot) (pending : List Change) → LeadsBack rid held pending (rows rid) → row_of held ≡ applied rows pending rid
+pub applied_leads : (rows : Rows) (rid : Rid) (held : Slot) (pending : List Change) → LeadsBack rid held pending (rows rid)
+    → row_of held ≡ applied rows pending rid
 applied_leads rows rid held [] leads = leads
 applied_leads rows rid held (newest ∷ before) (inl here) =
-    ap row_of (sym here.1) ∙ sym (cond-true (is_same_place rid newest.rid) (row_of newest.after) (applied rows before rid) (same_place_at rid newest.rid here.0))
+    ap row_of (sym here.1)
+    ∙ sym (cond-true (is_same_place rid newest.rid) (row_of newest.after) (applied rows before rid) (same_place_at rid newest.rid here.0))
 applied_leads rows rid held (newest ∷ before) (inr elsewhere) =
     applied_leads rows rid held before elsewhere.1
     ∙ sym (cond-false (is_same_place rid newest.rid) (row_of newest.after) (applied rows before rid) (other_place_at rid newest.rid elsewhere.0))

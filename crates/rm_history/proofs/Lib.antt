@@ -5,6 +5,7 @@ pub mod Readings
 pub mod Damages
 pub mod Prefixes
 pub mod PendingSteps
+pub mod PendingInduction
 pub mod PendingLaws
 pub mod LeadsBack
 pub mod ChainSteps

@@ -9,7 +9,7 @@ use Rattle.rm_history.specs.Losers.{with_number, without_number, losers_of, IsAm
 
 -- ---- a list with a number more, and without one
 
--- what holds of the list with the number in front, as it is, and with the number further back, holds with the number
+-- what holds of the list with the number in prefix, as it is, and with the number further back, holds with the number
 with_number_cases : (P : List ℕ → Type 0) (n first : ℕ) (rest : List ℕ) → (n < first → P (n ∷ first ∷ rest)) → (n ≡ first → P (first ∷ rest))
     → (first < n → P (first ∷ with_number n rest)) → P (with_number n (first ∷ rest))
 with_number_cases P n first rest below same above = elim (cases_lt n first) [
@@ -59,7 +59,8 @@ with_number-kept n [] rise among = absurd among
 with_number-kept n (first ∷ rest) rise (inl here) = rw (le-ltb n first (omega (arith, here)), eq-eqb n first (sym here))
 with_number-kept n (first ∷ rest) rise (inr there) =
     let above : first < n = rise.0 n there in
-    rw (le-ltb n first (omega arith), ne_eqb n first (λ same. let less : n ≡ first = same in absurd (omega arith))) (ap (λ (l : List ℕ). first ∷ l) (with_number-kept n rest rise.1 there))
+    rw (le-ltb n first (omega arith), ne_eqb n first (λ same. let less : n ≡ first = same in absurd (omega arith)))
+    (ap (λ (l : List ℕ). first ∷ l) (with_number-kept n rest rise.1 there))
 
 -- numbers that rise do so with one more
 with_number-rise : (n : ℕ) (all : List ℕ) → AreRising all → AreRising (with_number n all)
@@ -97,7 +98,8 @@ without_number-gone n (first ∷ rest) rise =
 without_number-rise : (n : ℕ) (all : List ℕ) → AreRising all → AreRising (without_number n all)
 without_number-rise n [] rise = tt
 without_number-rise n (first ∷ rest) rise =
-    without_number_cases AreRising n first rest (λ same. rise.1) (λ other. (λ k among. rise.0 k (without_number-only n k rest among), without_number-rise n rest rise.1))
+    without_number_cases AreRising n first rest (λ same. rise.1)
+    (λ other. (λ k among. rise.0 k (without_number-only n k rest among), without_number-rise n rest rise.1))
 
 -- ---- the losers of a history
 
@@ -114,7 +116,8 @@ losers_rise (marks m ∷ before) = losers_rise before
 -- a record of a transaction makes it a loser
 loser_more : (named txn : ℕ) (before : History) → (HasRecord before txn → IsFinished before txn ⊎ IsAmong (losers_of before) txn)
     → (named ≡ txn) ⊎ HasRecord before txn → IsFinished before txn ⊎ IsAmong (with_number named (losers_of before)) txn
-loser_more named txn before known (inl now) = inr (subst (λ (t : ℕ). IsAmong (with_number named (losers_of before)) t) now (with_number-there named (losers_of before)))
+loser_more named txn before known (inl now) =
+    inr (subst (λ (t : ℕ). IsAmong (with_number named (losers_of before)) t) now (with_number-there named (losers_of before)))
 loser_more named txn before known (inr earlier) = elim (known earlier) [
   | inl finished ↦ inl finished
   | inr loses ↦ inr (with_number-keeps named txn (losers_of before) loses)
@@ -175,9 +178,12 @@ unfinished_less named txn before known loses (inr finished) = known (without_num
 -- and of a history in order is not finished
 pub losers_are_unfinished : (history : History) → IsInOrder history → (txn : ℕ) → IsAmong (losers_of history) txn → IsFinished history txn → ⊥
 losers_are_unfinished [] ordered txn = λ loses finished. loses
-losers_are_unfinished (changes c ∷ before) ordered txn = unfinished_more c.txn txn before ordered.1.may_come.unfinished (losers_are_unfinished before ordered.0 txn)
-losers_are_unfinished (undoes u ∷ before) ordered txn = unfinished_more u.txn txn before ordered.1.may_come.unfinished (losers_are_unfinished before ordered.0 txn)
-losers_are_unfinished (enters e ∷ before) ordered txn = unfinished_more e.txn txn before ordered.1.may_come.unfinished (losers_are_unfinished before ordered.0 txn)
+losers_are_unfinished (changes c ∷ before) ordered txn =
+    unfinished_more c.txn txn before ordered.1.may_come.unfinished (losers_are_unfinished before ordered.0 txn)
+losers_are_unfinished (undoes u ∷ before) ordered txn =
+    unfinished_more u.txn txn before ordered.1.may_come.unfinished (losers_are_unfinished before ordered.0 txn)
+losers_are_unfinished (enters e ∷ before) ordered txn =
+    unfinished_more e.txn txn before ordered.1.may_come.unfinished (losers_are_unfinished before ordered.0 txn)
 losers_are_unfinished (commits f ∷ before) ordered txn = unfinished_less f.txn txn before (losers_are_unfinished before ordered.0 txn)
 losers_are_unfinished (ends f ∷ before) ordered txn = unfinished_less f.txn txn before (losers_are_unfinished before ordered.0 txn)
 losers_are_unfinished (marks m ∷ before) ordered txn = losers_are_unfinished before ordered.0 txn

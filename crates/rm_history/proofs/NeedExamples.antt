@@ -20,7 +20,7 @@ need_of_committed = refl
 need_is_the_most : (used (page_of inserted_and_deleted 0) ≡ 3980) × (need_of inserted_and_deleted 2 0 ≡ 100)
 need_is_the_most = (refl, refl)
 
--- what is inserted behind a delete does: it is undone before
+-- what is inserted after a delete does: it is undone before
 need_is_given_back : need_of deleted_and_inserted 2 0 ≡ 50
 need_is_given_back = refl
 
@@ -39,7 +39,8 @@ free_for_another : unreserved deleted 3 0 ≡ 76
 free_for_another = refl
 
 -- each of two deleters is to leave what the other one needs, and whoever has deleted nothing what both need
-needs_add_up : (others_need each_deleted 1 0 ≡ 300) × (others_need each_deleted 2 0 ≡ 200) × (others_need each_deleted 3 0 ≡ 100) × (others_need each_deleted 9 0 ≡ 300)
+needs_add_up : (others_need each_deleted 1 0 ≡ 300) × (others_need each_deleted 2 0 ≡ 200) × (others_need each_deleted 3 0 ≡ 100)
+    × (others_need each_deleted 9 0 ≡ 300)
 needs_add_up = (refl, refl, refl, refl)
 
 -- each has left what neither the two entries of the directory nor the other's undo has

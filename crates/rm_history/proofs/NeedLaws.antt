@@ -57,18 +57,18 @@ greatest [] = record { newest = []; older = []; cut = refl; is = refl }
 greatest (first ∷ before) = greatest_more first before (greatest before)
 
 -- the last of the changes in order are the newest ones
-cut_newest : (changed front last : List Change) → reverse changed ≡ front ++ last → changed ≡ reverse last ++ reverse front
-cut_newest changed front last cut = sym (reverse-reverse changed) ∙ ap reverse cut ∙ reverse-append front last
+cut_newest : (changed prefix last : List Change) → reverse changed ≡ prefix ++ last → changed ≡ reverse last ++ reverse prefix
+cut_newest changed prefix last cut = sym (reverse-reverse changed) ∙ ap reverse cut ∙ reverse-append prefix last
 
 -- and the newest of them are the last ones in order
 cut_last : (changed newest older : List Change) → changed ≡ newest ++ older → reverse changed ≡ reverse older ++ reverse newest
 cut_last changed newest older cut = ap reverse cut ∙ reverse-append newest older
 
 -- what the last of the changes gave up
-most_of_last : (changed front last : List Change) → reverse changed ≡ front ++ last → lost last ≤ need_for changed + gained last
-most_of_last changed front last cut =
-    let most : lost (reverse last) ≤ need_for (reverse last ++ reverse front) + gained (reverse last) = most_of_newest (reverse last) (reverse front) in
-    omega (arith, most, ap need_for (cut_newest changed front last cut), lost-reverse last, gained-reverse last)
+most_of_last : (changed prefix last : List Change) → reverse changed ≡ prefix ++ last → lost last ≤ need_for changed + gained last
+most_of_last changed prefix last cut =
+    let most : lost (reverse last) ≤ need_for (reverse last ++ reverse prefix) + gained (reverse last) = most_of_newest (reverse last) (reverse prefix) in
+    omega (arith, most, ap need_for (cut_newest changed prefix last cut), lost-reverse last, gained-reverse last)
 
 -- the need is the most of all that the last of them gave up more than they took
 pub need_is_the_most : NeedIsTheMost

@@ -3,15 +3,20 @@ use Rattle.std.proofs.Common.{◌≡◌, ℕ, zero, suc, ◌+◌, ◌-◌, ◌<�
 use Rattle.std.proofs.lemmas.Bool.{cases_eq, cases_lt, eq-eqb, ne_eqb}
 use Rattle.rm_types.specs.declared.slots.Slot.{Slot}
 use Rattle.rm_types.specs.declared.slots.TheConstants.{CAPACITY}
-use Rattle.rm_model.specs.Pages.{used, row_length, set_slot}
+use Rattle.rm_model.specs.Pages.{used, row_length, set_slot, slot_at}
 use Rattle.rm_model.proofs.Slots.{used-set_slot}
 use Rattle.rm_history.specs.Acts.{Change, Undo, Finish, History, changes, undoes, commits}
-use Rattle.rm_history.specs.Contents.{slot_at, page_of}
+use Rattle.rm_history.specs.Contents.{page_of}
 use Rattle.rm_history.specs.Pending.{older, pending_of}
 use Rattle.rm_history.specs.Needs.{on_page, need_for, need_of, sum_below, FitsOn, Fits}
 use Rattle.rm_history.proofs.PendingSteps.{pending-change, pending-change_other, pending-undo, pending-undo_other}
 
 -- ---- sums
+
+-- nothing adds up to nothing
+pub sum_below-zero : (n : ℕ) → sum_below (λ k. 0) n ≡ 0
+sum_below-zero zero = refl
+sum_below-zero (suc n) = omega (arith, sum_below-zero n)
 
 -- two functions that agree below a number have one sum there
 pub sum_below-same : (f g : ℕ → ℕ) (n : ℕ) → ((k : ℕ) → k < n → g k ≡ f k) → sum_below g n ≡ sum_below f n
@@ -115,7 +120,8 @@ need_of-undo before u last rest page is here =
     (sym (pending_of-undo before u last rest is))
 
 -- and an undo leaves what the other transactions' undo needs
-pub need_of-undo_other : (before : History) (u : Undo) (other page : ℕ) → (u.txn ≡ other → ⊥) → need_of (undoes u ∷ before) other page ≡ need_of before other page
+pub need_of-undo_other : (before : History) (u : Undo) (other page : ℕ) → (u.txn ≡ other → ⊥)
+    → need_of (undoes u ∷ before) other page ≡ need_of before other page
 need_of-undo_other before u other page differs = ap (λ (all : List Change). need_for (on_page page all)) (pending-undo_other u before other differs)
 
 -- ---- which pages fit

@@ -91,20 +91,21 @@ net_shrinks u log txn (other ∷ acts) last rest in_order named is = net_shrinks
 abbrev IsNet : History → ℕ → Type 0
 IsNet history txn = net_among history txn history ≡ pending_of history txn
 
--- also behind a change,
-net_behind_change : (c : Change) (before : History) (txn : ℕ) → IsInOrder (changes c ∷ before) → IsNet before txn → IsNet (changes c ∷ before) txn
-net_behind_change c before txn in_order same =
+-- also after a change,
+net_after_change : (c : Change) (before : History) (txn : ℕ) → IsInOrder (changes c ∷ before) → IsNet before txn → IsNet (changes c ∷ before) txn
+net_after_change c before txn in_order same =
     let listed = pending_of before txn in
     elim (cases_eq c.txn txn) [
       | inl mine ↦
-          net_grows c before txn in_order mine ∙ ap (λ (l : List Change). c ∷ l) same ∙ sym (cond-true (eqb c.txn txn) (c ∷ listed) listed (eq-eqb c.txn txn mine))
+          net_grows c before txn in_order mine ∙ ap (λ (l : List Change). c ∷ l) same
+          ∙ sym (cond-true (eqb c.txn txn) (c ∷ listed) listed (eq-eqb c.txn txn mine))
       | inr foreign ↦
           net_stays (changes c) before txn in_order foreign ∙ same ∙ sym (cond-false (eqb c.txn txn) (c ∷ listed) listed (ne_eqb c.txn txn foreign))
     ]
 
--- behind a compensation,
-net_behind_undo : (u : Undo) (before : History) (txn : ℕ) → IsInOrder (undoes u ∷ before) → IsNet before txn → IsNet (undoes u ∷ before) txn
-net_behind_undo u before txn in_order same =
+-- after a compensation,
+net_after_undo : (u : Undo) (before : History) (txn : ℕ) → IsInOrder (undoes u ∷ before) → IsNet before txn → IsNet (undoes u ∷ before) txn
+net_after_undo u before txn in_order same =
     let listed = pending_of before txn in
     elim (cases_eq u.txn txn) [
       | inl mine ↦
@@ -117,21 +118,23 @@ net_behind_undo u before txn in_order same =
           net_stays (undoes u) before txn in_order foreign ∙ same ∙ sym (cond-false (eqb u.txn txn) (older listed) listed (ne_eqb u.txn txn foreign))
     ]
 
--- and behind the end of another transaction
+-- and after the end of another transaction
 pending_stays : (f : Finish) (before : History) (txn : ℕ) → ((f.txn ≡ txn) ⊎ IsFinished before txn → ⊥)
     → cond (eqb f.txn txn) [] (pending_of before txn) ≡ pending_of before txn
 pending_stays f before txn unfinished = cond-false (eqb f.txn txn) [] (pending_of before txn) (ne_eqb f.txn txn (λ same. unfinished (inl same)))
 
--- so behind all records, while it is not finished
+-- so after all records, while it is not finished
 pub pending_is_net : (history : History) → IsInOrder history → (txn : ℕ) → (IsFinished history txn → ⊥) → IsNet history txn
 pending_is_net [] in_order txn unfinished = refl
-pending_is_net (changes c ∷ before) in_order txn unfinished = net_behind_change c before txn in_order (pending_is_net before in_order.0 txn unfinished)
-pending_is_net (undoes u ∷ before) in_order txn unfinished = net_behind_undo u before txn in_order (pending_is_net before in_order.0 txn unfinished)
+pending_is_net (changes c ∷ before) in_order txn unfinished = net_after_change c before txn in_order (pending_is_net before in_order.0 txn unfinished)
+pending_is_net (undoes u ∷ before) in_order txn unfinished = net_after_undo u before txn in_order (pending_is_net before in_order.0 txn unfinished)
 pending_is_net (enters e ∷ before) in_order txn unfinished = net_stays (enters e) before txn in_order tt ∙ pending_is_net before in_order.0 txn unfinished
 pending_is_net (commits f ∷ before) in_order txn unfinished =
-    net_stays (commits f) before txn in_order tt ∙ pending_is_net before in_order.0 txn (λ done. unfinished (inr done)) ∙ sym (pending_stays f before txn unfinished)
+    net_stays (commits f) before txn in_order tt ∙ pending_is_net before in_order.0 txn (λ done. unfinished (inr done))
+    ∙ sym (pending_stays f before txn unfinished)
 pending_is_net (ends f ∷ before) in_order txn unfinished =
-    net_stays (ends f) before txn in_order tt ∙ pending_is_net before in_order.0 txn (λ done. unfinished (inr done)) ∙ sym (pending_stays f before txn unfinished)
+    net_stays (ends f) before txn in_order tt ∙ pending_is_net before in_order.0 txn (λ done. unfinished (inr done))
+    ∙ sym (pending_stays f before txn unfinished)
 pending_is_net (marks m ∷ before) in_order txn unfinished = net_stays (marks m) before txn in_order tt ∙ pending_is_net before in_order.0 txn unfinished
 
 -- the two ways of saying what is pending are one

@@ -50,12 +50,14 @@ is_undone-append lsn (other ∷ first) second = is_undone-append lsn first secon
 is_undone-last : (lsn : ℕ) (newest : Act) (before : History) → is_undone lsn (reverse before) ≡ is_undone lsn before
     → is_undone lsn (reverse (newest ∷ before)) ≡ is_undone lsn before || is_undone lsn (newest ∷ [])
 is_undone-last lsn newest before same =
-    ap (is_undone lsn) (reverse-cons newest before) ∙ is_undone-append lsn (reverse before) (newest ∷ []) ∙ ap (λ (b : Bool). b || is_undone lsn (newest ∷ [])) same
+    ap (is_undone lsn) (reverse-cons newest before) ∙ is_undone-append lsn (reverse before) (newest ∷ [])
+    ∙ ap (λ (b : Bool). b || is_undone lsn (newest ∷ [])) same
 
 -- in either order of the records
 pub is_undone-reverse : (lsn : ℕ) (history : History) → is_undone lsn (reverse history) ≡ is_undone lsn history
 is_undone-reverse lsn [] = refl
-is_undone-reverse lsn (undoes u ∷ before) = is_undone-last lsn (undoes u) before (is_undone-reverse lsn before) ∙ or_last (is_undone lsn before) (eqb u.undone lsn)
+is_undone-reverse lsn (undoes u ∷ before) =
+    is_undone-last lsn (undoes u) before (is_undone-reverse lsn before) ∙ or_last (is_undone lsn before) (eqb u.undone lsn)
 is_undone-reverse lsn (other ∷ before) = is_undone-last lsn other before (is_undone-reverse lsn before) ∙ or_none (is_undone lsn before)
 
 -- ---- net changes
@@ -75,7 +77,8 @@ net_undone log txn c acts mine undone =
     cond-true (eqb c.txn txn) (cond (is_undone c.lsn log) rest (c ∷ rest)) rest mine ∙ cond-true (is_undone c.lsn log) rest (c ∷ rest) undone
 
 -- nor is one of another transaction
-pub net_foreign : (log : History) (txn : ℕ) (c : Change) (acts : History) → eqb c.txn txn ≡ false → net_among log txn (changes c ∷ acts) ≡ net_among log txn acts
+pub net_foreign : (log : History) (txn : ℕ) (c : Change) (acts : History) → eqb c.txn txn ≡ false
+    → net_among log txn (changes c ∷ acts) ≡ net_among log txn acts
 net_foreign log txn c acts other =
     let rest = net_among log txn acts in
     cond-false (eqb c.txn txn) (cond (is_undone c.lsn log) rest (c ∷ rest)) rest other
@@ -89,13 +92,14 @@ net_agree log other txn (changes c ∷ acts) agree =
     elim (cases_eq c.txn txn) [
       | inl mine ↦
           ap (λ (l : List Change). cond (eqb c.txn txn) (cond (is_undone c.lsn log) l (c ∷ l)) l) rest
-          ∙ ap (λ (b : Bool). cond (eqb c.txn txn) (cond b (net_among other txn acts) (c ∷ net_among other txn acts)) (net_among other txn acts)) (agree c.lsn (inl (refl, mine)))
+          ∙ ap (λ (b : Bool). cond (eqb c.txn txn) (cond b (net_among other txn acts) (c ∷ net_among other txn acts)) (net_among other txn acts))
+          (agree c.lsn (inl (refl, mine)))
       | inr foreign ↦
           net_foreign log txn c acts (ne_eqb c.txn txn foreign) ∙ rest ∙ sym (net_foreign other txn c acts (ne_eqb c.txn txn foreign))
     ]
 net_agree log other txn (act ∷ acts) agree = net_agree log other txn acts agree
 
--- a change in front of two parts
+-- a change in prefix of two parts
 net_pushed : (mine undone : Bool) (c : Change) (first second : List Change)
     → cond mine (cond undone (first ++ second) (c ∷ first ++ second)) (first ++ second) ≡ cond mine (cond undone first (c ∷ first)) first ++ second
 net_pushed true true c first second = refl
@@ -103,7 +107,8 @@ net_pushed true false c first second = refl
 net_pushed false undone c first second = refl
 
 -- of two parts of a log, those of one and then those of the other
-net_among-append : (log : History) (txn : ℕ) (first second : History) → net_among log txn (first ++ second) ≡ net_among log txn first ++ net_among log txn second
+net_among-append : (log : History) (txn : ℕ) (first second : History)
+    → net_among log txn (first ++ second) ≡ net_among log txn first ++ net_among log txn second
 net_among-append log txn [] second = refl
 net_among-append log txn (changes c ∷ first) second =
     ap (λ (l : List Change). cond (eqb c.txn txn) (cond (is_undone c.lsn log) l (c ∷ l)) l) (net_among-append log txn first second)

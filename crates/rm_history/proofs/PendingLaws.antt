@@ -3,12 +3,13 @@ use Rattle.std.proofs.Common.{◌≡◌, ◌⊎◌, inl, inr, ℕ, ◌<◌, Bool
 use Rattle.std.specs.List.{AllByRecursion}
 use Rattle.std.proofs.lemmas.Bool.{cond_both, eqb-true, cases_eq}
 use Rattle.rm_types.specs.declared.numbers.Rid.{Rid}
-use Rattle.rm_history.specs.Acts.{Change, History, changes, undoes, enters, commits, ends, marks}
+use Rattle.rm_history.specs.Acts.{Act, Change, History, changes, undoes, enters, commits, ends, marks}
 use Rattle.rm_history.specs.Contents.{page_of}
-use Rattle.rm_history.specs.Pending.{older, last_of, pending_of}
+use Rattle.rm_history.specs.Pending.{older, pending_of}
 use Rattle.rm_history.specs.Transactions.{IsFinished, HasChange}
 use Rattle.rm_history.specs.Rules.{MayChange, IsInOrder}
 use Rattle.rm_history.specs.Laws.{AreChained, IsChanged, PendingIsChained, PendingIsOfOne}
+use Rattle.rm_history.proofs.PendingInduction.{pending_by}
 use Rattle.rm_history.proofs.PendingSteps.{if_equal, pending-change_other, pending-undo_other, length-put, inside-put}
 
 -- ---- changes among others
@@ -22,7 +23,7 @@ changed_older : (pending : List Change) (rid : Rid) → IsChanged (older pending
 changed_older [] rid changed = changed
 changed_older (newest ∷ before) rid changed = inr changed
 
--- what is pending behind an undo was pending before it; behind a commit or an end too
+-- what is pending after an undo was pending before it; after a commit or an end too
 changed_undo : (mine : Bool) (pending : List Change) (rid : Rid) → IsChanged (cond mine (older pending) pending) rid → IsChanged pending rid
 changed_undo mine pending rid =
     cond_both mine (older pending) pending (λ l. IsChanged l rid → IsChanged pending rid) (λ is. changed_older pending rid) (λ is changed. changed)
@@ -31,8 +32,9 @@ changed_finish : (mine : Bool) (pending : List Change) (rid : Rid) → IsChanged
 changed_finish mine pending rid =
     cond_both mine [] pending (λ l. IsChanged l rid → IsChanged pending rid) (λ is changed. absurd changed) (λ is changed. changed)
 
--- what is pending behind a change is this change, or it was pending before
-changed_now : (c : Change) (txn : ℕ) (pending : List Change) (rid : Rid) → c.txn ≡ txn → IsChanged (c ∷ pending) rid → ((c.txn ≡ txn) × (c.rid ≡ rid)) ⊎ IsChanged pending rid
+-- what is pending after a change is this change, or it was pending before
+changed_now : (c : Change) (txn : ℕ) (pending : List Change) (rid : Rid) → c.txn ≡ txn → IsChanged (c ∷ pending) rid
+    → ((c.txn ≡ txn) × (c.rid ≡ rid)) ⊎ IsChanged pending rid
 changed_now c txn pending rid mine (inl now) = inl (mine, now)
 changed_now c txn pending rid mine (inr earlier) = inr earlier
 
@@ -70,40 +72,45 @@ changed_unfinished history ordered txn rid changed finished = changed_none (pend
 abbrev pub AreOf : ℕ → List Change → Type 0
 AreOf txn pending = AllByRecursion (λ c. c.txn ≡ txn) pending
 
-older_are_of : (txn : ℕ) (pending : List Change) → AreOf txn pending → AreOf txn (older pending)
-older_are_of txn [] are = tt
-older_are_of txn (newest ∷ before) are = are.1
-
 pub pending_are_of : (history : History) (txn : ℕ) → AreOf txn (pending_of history txn)
-pending_are_of [] txn = tt
-pending_are_of (changes c ∷ before) txn =
-    cond_both (eqb c.txn txn) (c ∷ pending_of before txn) (pending_of before txn) (AreOf txn)
-    (λ is. (eqb-true c.txn txn is, pending_are_of before txn)) (λ is. pending_are_of before txn)
-pending_are_of (undoes u ∷ before) txn =
-    cond_both (eqb u.txn txn) (older (pending_of before txn)) (pending_of before txn) (AreOf txn)
-    (λ is. older_are_of txn (pending_of before txn) (pending_are_of before txn)) (λ is. pending_are_of before txn)
-pending_are_of (enters e ∷ before) txn = pending_are_of before txn
-pending_are_of (commits f ∷ before) txn = cond_both (eqb f.txn txn) [] (pending_of before txn) (AreOf txn) (λ is. tt) (λ is. pending_are_of before txn)
-pending_are_of (ends f ∷ before) txn = cond_both (eqb f.txn txn) [] (pending_of before txn) (AreOf txn) (λ is. tt) (λ is. pending_are_of before txn)
-pending_are_of (marks m ∷ before) txn = pending_are_of before txn
+pending_are_of history txn =
+    pending_by (λ h. Unit {0}) (λ h t pending. AreOf t pending)
+    (record {
+      known = λ act before known. tt;
+      none = λ h t. tt;
+      stays = λ act before t pending are. are;
+      less = λ h t newest rest are. are.1;
+      more = λ c before known are. (refl, are);
+    })
+    history tt txn
 
 -- ---- on which row ids
 
+-- a change record stays as records come
+pub change_stays : (txn : ℕ) (rid : Rid) (act : Act) (before : History) → HasChange before txn rid → HasChange (act ∷ before) txn rid
+change_stays txn rid (changes c) before has = inr has
+change_stays txn rid (undoes u) before has = has
+change_stays txn rid (enters e) before has = has
+change_stays txn rid (commits f) before has = has
+change_stays txn rid (ends f) before has = has
+change_stays txn rid (marks m) before has = has
+
 -- a pending change is a change record of its transaction
 pub changed_has_change : (history : History) (txn : ℕ) (rid : Rid) → IsChanged (pending_of history txn) rid → HasChange history txn rid
-changed_has_change [] txn rid changed = changed
-changed_has_change (changes c ∷ before) txn rid changed = elim (changed_change c txn (pending_of before txn) rid changed) [
-  | inl now ↦ inl now
-  | inr earlier ↦ inr (changed_has_change before txn rid earlier)
-]
-changed_has_change (undoes u ∷ before) txn rid changed = changed_has_change before txn rid (changed_undo (eqb u.txn txn) (pending_of before txn) rid changed)
-changed_has_change (enters e ∷ before) txn rid changed = changed_has_change before txn rid changed
-changed_has_change (commits f ∷ before) txn rid changed = changed_has_change before txn rid (changed_finish (eqb f.txn txn) (pending_of before txn) rid changed)
-changed_has_change (ends f ∷ before) txn rid changed = changed_has_change before txn rid (changed_finish (eqb f.txn txn) (pending_of before txn) rid changed)
-changed_has_change (marks m ∷ before) txn rid changed = changed_has_change before txn rid changed
+changed_has_change history txn rid =
+    pending_by (λ h. Unit {0}) (λ h t pending. IsChanged pending rid → HasChange h t rid)
+    (record {
+      known = λ act before known. tt;
+      none = λ h t changed. absurd changed;
+      stays = λ act before t pending had changed. change_stays t rid act before (had changed);
+      less = λ h t newest rest had changed. had (inr changed);
+      more = λ c before known had changed. elim changed [ inl now ↦ inl (refl, now) | inr earlier ↦ inr (had earlier) ];
+    })
+    history tt txn
 
 -- where a change may come, no other transaction has one pending on its row id
-pub nobody_else : (before : History) (c : Change) → IsInOrder before → MayChange before c → (other : ℕ) → IsChanged (pending_of before other) c.rid → c.txn ≡ other
+pub nobody_else : (before : History) (c : Change) → IsInOrder before → MayChange before c → (other : ℕ)
+    → IsChanged (pending_of before other) c.rid → c.txn ≡ other
 nobody_else before c ordered may other changed = elim (cases_eq c.txn other) [
   | inl same ↦ same
   | inr different ↦
@@ -111,7 +118,8 @@ nobody_else before c ordered may other changed = elim (cases_eq c.txn other) [
       absurd (changed_unfinished before ordered other c.rid changed finished)
 ]
 
-nobody_else_at : (before : History) (c : Change) (rid : Rid) → IsInOrder before → MayChange before c → c.rid ≡ rid → (other : ℕ) → IsChanged (pending_of before other) rid → c.txn ≡ other
+nobody_else_at : (before : History) (c : Change) (rid : Rid) → IsInOrder before → MayChange before c → c.rid ≡ rid → (other : ℕ)
+    → IsChanged (pending_of before other) rid → c.txn ≡ other
 nobody_else_at before c rid ordered may here other changed =
     nobody_else before c ordered may other (subst (λ (r : Rid). IsChanged (pending_of before other) r) (sym here) changed)
 
@@ -131,19 +139,24 @@ pending_is_of_one (changes c ∷ before) ordered rid txn other changed other_cha
       ]
     ]
 pending_is_of_one (undoes u ∷ before) ordered rid txn other changed other_changed =
-    pending_is_of_one before ordered.0 rid txn other (changed_undo (eqb u.txn txn) (pending_of before txn) rid changed) (changed_undo (eqb u.txn other) (pending_of before other) rid other_changed)
+    pending_is_of_one before ordered.0 rid txn other (changed_undo (eqb u.txn txn) (pending_of before txn) rid changed)
+    (changed_undo (eqb u.txn other) (pending_of before other) rid other_changed)
 pending_is_of_one (enters e ∷ before) ordered rid txn other changed other_changed = pending_is_of_one before ordered.0 rid txn other changed other_changed
 pending_is_of_one (commits f ∷ before) ordered rid txn other changed other_changed =
-    pending_is_of_one before ordered.0 rid txn other (changed_finish (eqb f.txn txn) (pending_of before txn) rid changed) (changed_finish (eqb f.txn other) (pending_of before other) rid other_changed)
+    pending_is_of_one before ordered.0 rid txn other (changed_finish (eqb f.txn txn) (pending_of before txn) rid changed)
+    (changed_finish (eqb f.txn other) (pending_of before other) rid other_changed)
 pending_is_of_one (ends f ∷ before) ordered rid txn other changed other_changed =
-    pending_is_of_one before ordered.0 rid txn other (changed_finish (eqb f.txn txn) (pending_of before txn) rid changed) (changed_finish (eqb f.txn other) (pending_of before other) rid other_changed)
+    pending_is_of_one before ordered.0 rid txn other (changed_finish (eqb f.txn txn) (pending_of before txn) rid changed)
+    (changed_finish (eqb f.txn other) (pending_of before other) rid other_changed)
 pending_is_of_one (marks m ∷ before) ordered rid txn other changed other_changed = pending_is_of_one before ordered.0 rid txn other changed other_changed
 
 -- a row id that has a change record is inside of its page's directory
 pub changed_inside : (history : History) (txn : ℕ) (rid : Rid) → HasChange history txn rid → rid.slot < length (page_of history rid.page)
 changed_inside [] txn rid had = absurd had
-changed_inside (changes c ∷ before) txn rid (inl now) = subst (λ (r : Rid). r.slot < length (page_of (changes c ∷ before) r.page)) now.1 (inside-put (page_of before) c.rid c.after)
-changed_inside (changes c ∷ before) txn rid (inr earlier) = omega (arith, changed_inside before txn rid earlier, length-put (page_of before) c.rid c.after rid.page)
+changed_inside (changes c ∷ before) txn rid (inl now) =
+    subst (λ (r : Rid). r.slot < length (page_of (changes c ∷ before) r.page)) now.1 (inside-put (page_of before) c.rid c.after)
+changed_inside (changes c ∷ before) txn rid (inr earlier) =
+    omega (arith, changed_inside before txn rid earlier, length-put (page_of before) c.rid c.after rid.page)
 changed_inside (undoes u ∷ before) txn rid had = omega (arith, changed_inside before txn rid had, length-put (page_of before) u.rid u.back rid.page)
 changed_inside (enters e ∷ before) txn rid had = changed_inside before txn rid had
 changed_inside (commits f ∷ before) txn rid had = changed_inside before txn rid had
@@ -152,24 +165,14 @@ changed_inside (marks m ∷ before) txn rid had = changed_inside before txn rid 
 
 -- ---- in which order
 
-older_are_chained : (pending : List Change) → AreChained pending → AreChained (older pending)
-older_are_chained [] are = tt
-older_are_chained (newest ∷ before) are = are.1
-
 -- each names the next one
 pub pending_is_chained : PendingIsChained
-pending_is_chained [] ordered txn = tt
-pending_is_chained (changes c ∷ before) ordered txn =
-    let may : MayChange before c = ordered.1.may_come in
-    cond_both (eqb c.txn txn) (c ∷ pending_of before txn) (pending_of before txn) AreChained
-    (λ is. (subst (λ (n : ℕ). c.under ≡ last_of (pending_of before n)) (eqb-true c.txn txn is) may.under_is, pending_is_chained before ordered.0 txn))
-    (λ is. pending_is_chained before ordered.0 txn)
-pending_is_chained (undoes u ∷ before) ordered txn =
-    cond_both (eqb u.txn txn) (older (pending_of before txn)) (pending_of before txn) AreChained
-    (λ is. older_are_chained (pending_of before txn) (pending_is_chained before ordered.0 txn)) (λ is. pending_is_chained before ordered.0 txn)
-pending_is_chained (enters e ∷ before) ordered txn = pending_is_chained before ordered.0 txn
-pending_is_chained (commits f ∷ before) ordered txn =
-    cond_both (eqb f.txn txn) [] (pending_of before txn) AreChained (λ is. tt) (λ is. pending_is_chained before ordered.0 txn)
-pending_is_chained (ends f ∷ before) ordered txn =
-    cond_both (eqb f.txn txn) [] (pending_of before txn) AreChained (λ is. tt) (λ is. pending_is_chained before ordered.0 txn)
-pending_is_chained (marks m ∷ before) ordered txn = pending_is_chained before ordered.0 txn
+pending_is_chained =
+    pending_by IsInOrder (λ h t pending. AreChained pending)
+    (record {
+      known = λ act before known. known.0;
+      none = λ h t. tt;
+      stays = λ act before t pending are. are;
+      less = λ h t newest rest are. are.1;
+      more = λ c before known are. (known.1.may_come.under_is, are);
+    })

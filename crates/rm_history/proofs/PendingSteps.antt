@@ -3,10 +3,9 @@ use Rattle.std.proofs.Common.{◌≡◌, ◌⊎◌, inl, inr, ℕ, ◌<◌, ◌�
 use Rattle.std.proofs.lemmas.Bool.{cases_Bool, eq-eqb, ne_eqb, cond-true, cond-false, cases_eq}
 use Rattle.rm_types.specs.declared.numbers.Rid.{Rid}
 use Rattle.rm_types.specs.declared.slots.Slot.{Slot}
-use Rattle.rm_model.specs.Pages.{set_slot}
+use Rattle.rm_model.specs.Pages.{set_slot, slot_at}
 use Rattle.rm_model.proofs.Slots.{set_slot_at, set_slot_other, length-set_slot}
 use Rattle.rm_history.specs.Acts.{Change, Undo, Finish, History, changes, undoes, commits, ends}
-use Rattle.rm_history.specs.Contents.{slot_at}
 use Rattle.rm_history.specs.Pending.{older, pending_of}
 
 -- ---- tests of numbers and of row ids
@@ -74,22 +73,32 @@ slot_at-put pages rid slot =
     ∙ set_slot_at (pages rid.page) rid.slot slot
 
 -- each other row id holds what it held
-pub slot_at-put_other : (pages : ℕ → List Slot) (rid place : Rid) (slot : Slot) → (rid ≡ place → ⊥) → slot_at (put pages rid slot place.page) place.slot ≡ slot_at (pages place.page) place.slot
+pub slot_at-put_other : (pages : ℕ → List Slot) (rid place : Rid) (slot : Slot) → (rid ≡ place → ⊥)
+    → slot_at (put pages rid slot place.page) place.slot ≡ slot_at (pages place.page) place.slot
 slot_at-put_other pages rid place slot other = elim (cases_eq rid.page place.page) [
   | inl same ↦
       ap (λ (slots : List Slot). slot_at slots place.slot) (if_equal rid.page place.page (set_slot (pages place.page) rid.slot slot) (pages place.page) same)
       ∙ set_slot_other (pages place.page) rid.slot place.slot slot (λ slots. other (rid_from rid place same (sym slots)))
-  | inr elsewhere ↦ ap (λ (slots : List Slot). slot_at slots place.slot) (if_different rid.page place.page (set_slot (pages place.page) rid.slot slot) (pages place.page) elsewhere)
+  | inr elsewhere ↦ ap (λ (slots : List Slot). slot_at slots place.slot)
+      (if_different rid.page place.page (set_slot (pages place.page) rid.slot slot) (pages place.page) elsewhere)
 ]
 
 -- no directory gets shorter
 pub length-put : (pages : ℕ → List Slot) (rid : Rid) (slot : Slot) (page : ℕ) → length (pages page) ≤ length (put pages rid slot page)
 length-put pages rid slot page = elim (cases_Bool (eqb rid.page page)) [
-  | inl on ↦ omega (arith, ap length (cond-true (eqb rid.page page) (set_slot (pages page) rid.slot slot) (pages page) on), length-set_slot (pages page) rid.slot slot)
+  | inl on ↦ omega (
+    arith,
+    ap length (cond-true (eqb rid.page page) (set_slot (pages page) rid.slot slot) (pages page) on),
+    length-set_slot (pages page) rid.slot slot,
+  )
   | inr off ↦ omega (arith, ap length (cond-false (eqb rid.page page) (set_slot (pages page) rid.slot slot) (pages page) off))
 ]
 
 -- the row id is inside of its page's
 pub inside-put : (pages : ℕ → List Slot) (rid : Rid) (slot : Slot) → rid.slot < length (put pages rid slot rid.page)
 inside-put pages rid slot =
-    omega (arith, ap length (if_equal rid.page rid.page (set_slot (pages rid.page) rid.slot slot) (pages rid.page) refl), length-set_slot (pages rid.page) rid.slot slot)
+    omega (
+      arith,
+      ap length (if_equal rid.page rid.page (set_slot (pages rid.page) rid.slot slot) (pages rid.page) refl),
+      length-set_slot (pages rid.page) rid.slot slot,
+    )

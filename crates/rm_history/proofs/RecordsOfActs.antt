@@ -1,4 +1,4 @@
--- What a record does, with its LSN, tells the record.
+-- No two records do the same with the same LSN.
 use Rattle.std.proofs.Common.{◌≡◌, ℕ, refl, sym, ap, ◌∙◌}
 use Rattle.rm_types.specs.declared.slots.Slot.{Slot}
 use Rattle.rm_types.specs.declared.slots.Slot.TheVariants.{Vacant, Row}

@@ -7,7 +7,8 @@ use Rattle.rm_types.specs.declared.slots.Slot.{Slot}
 use Rattle.rm_model.specs.Object.{Rows}
 use Rattle.rm_model.proofs.Slots.{length-set_slot}
 use Rattle.rm_history.specs.Acts.{Change, Undo, History, undoes, enters, ends, newest_lsn}
-use Rattle.rm_history.specs.Contents.{slot_at, slot_of, page_of, entry_of, category_of}
+use Rattle.rm_model.specs.Pages.{slot_at}
+use Rattle.rm_history.specs.Contents.{slot_of, page_of, entry_of, category_of}
 use Rattle.rm_history.specs.Pending.{pending_of, of_txn, without_newest, all_pending}
 use Rattle.rm_history.specs.Transactions.{IsFinished, HasRecord}
 use Rattle.rm_history.specs.Rows.{rows_of_log, settled_of}
@@ -81,7 +82,8 @@ record Leaves (before : History) (txn : ℕ) (new : History) : Type 0 where
   sizes : (page : ℕ) → length (page_of new page) ≡ length (page_of before page)
 
 -- the page has as many slots after the undo as before it, where the slot is one of them
-size_stays : (before : History) (u : Undo) (page : ℕ) → u.rid.slot < length (page_of before u.rid.page) → length (page_of (undoes u ∷ before) page) ≡ length (page_of before page)
+size_stays : (before : History) (u : Undo) (page : ℕ) → u.rid.slot < length (page_of before u.rid.page)
+    → length (page_of (undoes u ∷ before) page) ≡ length (page_of before page)
 size_stays before u page inside = elim (cases_eq u.rid.page page) [
   | inl here ↦
       let slots : u.rid.slot < length (page_of before page) = subst (λ (p : ℕ). u.rid.slot < length (page_of before p)) here inside in
@@ -132,15 +134,26 @@ pub newest_has_record : (history : History) (last : Change) (rest : List Change)
 newest_has_record history last rest is = last_has_record history last.txn last (of_txn last.txn rest) (pending_of-newest history last rest is)
 
 -- undoing these, which are all that is pending, gives that history
-all_are_undone : (format : Format) (before new : History) (all : List Change) → IsLegal format before → all_pending before ≡ all → AllUndone format before all new → AllAreUndone format before new
+all_are_undone : (format : Format) (before new : History) (all : List Change) → IsLegal format before → all_pending before ≡ all
+    → AllUndone format before all new → AllAreUndone format before new
 all_are_undone format before new [] legal is undone =
     subst (AllAreUndone format before) (sym undone)
-    (record { legal = legal; none = is; kept = λ any finished. finished; no_more = λ any finished. finished; records = λ any has. has; rows = refl; sizes = λ page. refl })
+    (record {
+      legal = legal;
+      none = is;
+      kept = λ any finished. finished;
+      no_more = λ any finished. finished;
+      records = λ any has. has;
+      rows = refl;
+      sizes = λ page. refl;
+    })
 all_are_undone format before new (last ∷ rest) legal is undone =
     let mid : History = undone.0 in
     let mine : pending_of before last.txn ≡ last ∷ of_txn last.txn rest = pending_of-newest before last rest is in
-    let unfinished : IsFinished before last.txn → ⊥ = last_is_unfinished before (legal_is_in_order format before legal) last.txn last (of_txn last.txn rest) mine in
-    let one : IsUndone format before last.txn (of_txn last.txn rest) mid = no_undo_lacks_room format before mid last.txn last (of_txn last.txn rest) legal unfinished mine undone.1 in
+    let unfinished : IsFinished before last.txn → ⊥ =
+    last_is_unfinished before (legal_is_in_order format before legal) last.txn last (of_txn last.txn rest) mine in
+    let one : IsUndone format before last.txn (of_txn last.txn rest) mid =
+    no_undo_lacks_room format before mid last.txn last (of_txn last.txn rest) legal unfinished mine undone.1 in
     let left : Leaves before last.txn mid = undone_leaves format before mid last (last_is_inside before last.txn last (of_txn last.txn rest) mine) undone.1 in
     let is_mid : all_pending mid ≡ rest = left.pending ∙ ap (λ (l : List Change). without_newest l last.txn) is ∙ without_newest-head last rest in
     let more : AllAreUndone format mid new = all_are_undone format mid new rest one.legal is_mid undone.2 in
@@ -170,11 +183,20 @@ record AllHaveEnded (format : Format) (before : History) (txns : List ℕ) (new 
   sizes : (page : ℕ) → length (page_of new page) ≡ length (page_of before page)
 
 -- the end of these, none of which is finished or has a change pending, gives that history
-all_have_ended : (format : Format) (before new : History) (txns : List ℕ) → IsLegal format before → AreRising txns → ((txn : ℕ) → IsAmong txns txn → IsFinished before txn → ⊥)
+all_have_ended : (format : Format) (before new : History) (txns : List ℕ) → IsLegal format before → AreRising txns
+    → ((txn : ℕ) → IsAmong txns txn → IsFinished before txn → ⊥)
     → ((txn : ℕ) → pending_of before txn ≡ []) → AllEnded before txns new → AllHaveEnded format before txns new
 all_have_ended format before new [] legal rise unfinished none ended =
     subst (AllHaveEnded format before []) (sym ended)
-    (record { legal = legal; pending = λ any. refl; finished = λ any among. absurd among; kept = λ any finished. finished; records = λ any has. inr has; rows = refl; sizes = λ page. refl })
+    (record {
+      legal = legal;
+      pending = λ any. refl;
+      finished = λ any among. absurd among;
+      kept = λ any finished. finished;
+      records = λ any has. inr has;
+      rows = refl;
+      sizes = λ page. refl;
+    })
 all_have_ended format before new (txn ∷ rest) legal rise unfinished none ended =
     let mid : History = ended.0 in
     let one : HasEnded format before txn mid = has_ended format before mid txn legal (unfinished txn (inl refl)) (none txn) ended.1 in
@@ -202,7 +224,8 @@ all_have_ended format before new (txn ∷ rest) legal rise unfinished none ended
 -- ---- the pages then
 
 -- a list of slots is what it holds at each number
-slots_by_number : (f : ℕ → Slot) (slots : List Slot) (from : ℕ) → ((number : ℕ) → slot_at slots number ≡ f (number + from)) → slots ≡ map f (range_with_len from (length slots))
+slots_by_number : (f : ℕ → Slot) (slots : List Slot) (from : ℕ) → ((number : ℕ) → slot_at slots number ≡ f (number + from))
+    → slots ≡ map f (range_with_len from (length slots))
 slots_by_number f [] from holds = refl
 slots_by_number f (slot ∷ slots) from holds =
     let rest : slots ≡ map f (range_with_len (from + 1) (length slots)) =
@@ -211,7 +234,8 @@ slots_by_number f (slot ∷ slots) from holds =
     λ i. first i ∷ rest i
 
 -- where nothing is pending each page is as it is with its committed rows alone
-pub page_is_settled : (history : History) → IsInOrder history → ((txn : ℕ) → pending_of history txn ≡ []) → (page : ℕ) → page_of history page ≡ settled_of history page
+pub page_is_settled : (history : History) → IsInOrder history → ((txn : ℕ) → pending_of history txn ≡ []) → (page : ℕ)
+    → page_of history page ≡ settled_of history page
 page_is_settled history ordered none page =
     let held : ℕ → Slot = λ number. slot_of (rows_of_log history (record { page = page; slot = number })) in
     slots_by_number held (page_of history page) 0 (λ number. settled_when_nothing_is_pending history ordered none page number ∙ ap held (omega arith))
@@ -240,12 +264,14 @@ count_ended before new (txn ∷ rest) ended = count_ended ended.0 new rest ended
 
 pub restarts_compensate_all : RestartsCompensateAll
 restarts_compensate_all start before new restarted =
-    count_ended restarted.undone new (losers_of before) restarted.ends_all ∙ count_undone start before restarted.undone (all_pending before) restarted.undoes_all
+    count_ended restarted.undone new (losers_of before) restarted.ends_all
+    ∙ count_undone start before restarted.undone (all_pending before) restarted.undoes_all
 
 -- ---- the theorem
 
 -- where nothing is pending each entry is right
-all_entered : (format : Format) (history : History) → IsLegal format history → ((txn : ℕ) → pending_of history txn ≡ []) → (page : ℕ) → entry_of history page ≡ category_of format (page_of history page)
+all_entered : (format : Format) (history : History) → IsLegal format history → ((txn : ℕ) → pending_of history txn ≡ []) → (page : ℕ)
+    → entry_of history page ≡ category_of format (page_of history page)
 all_entered format history legal none page = elim (entries_follow format history legal page) [
   | inl right ↦ right
   | inr pending ↦ absurd (pending.1 (ap (on_page page) (none pending.0)))
@@ -275,7 +301,8 @@ restarts_are_legal format before new legal restarted =
       finished = λ txn has. elim (over.records txn has) [ inl loses ↦ over.finished txn loses | inr earlier ↦ had txn (undone.records txn earlier) ];
       rows = rows;
       settled = λ rid.
-          pages_hold_what_is_committed new ordered rid (λ txn changed. changed_none (pending_of new txn) rid (none txn) changed) ∙ ap (λ (r : Rows). r rid) rows;
+          pages_hold_what_is_committed new ordered rid (λ txn changed. changed_none (pending_of new txn) rid (none txn) changed)
+          ∙ ap (λ (r : Rows). r rid) rows;
       pages = pages;
       entered = λ page. all_entered format new over.legal none page ∙ ap (category_of format) (pages page);
     }

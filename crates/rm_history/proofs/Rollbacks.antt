@@ -55,7 +55,8 @@ pub record HasEnded (format : Format) (before : History) (txn : ℕ) (new : Hist
   pub pages : (page : ℕ) → page_of new page ≡ page_of before page
 
 -- the end of a transaction that has nothing pending gives that history
-pub has_ended : (format : Format) (before new : History) (txn : ℕ) → IsLegal format before → (IsFinished before txn → ⊥) → pending_of before txn ≡ [] → Ended before txn new → HasEnded format before txn new
+pub has_ended : (format : Format) (before new : History) (txn : ℕ) → IsLegal format before → (IsFinished before txn → ⊥)
+    → pending_of before txn ≡ [] → Ended before txn new → HasEnded format before txn new
 has_ended format before new txn legal unfinished none ended =
     let f : Finish = record { lsn = ended.lsn; txn = txn } in
     let may : MayEnd before f = record { unfinished = unfinished; none = none } in

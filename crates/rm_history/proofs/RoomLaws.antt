@@ -1,20 +1,22 @@
 -- What fits is exactly what leaves each page room.
-use Rattle.std.proofs.Common.{◌≡◌, ℕ, zero, suc, ◌+◌, ◌-◌, ◌==◌, if◌then◌else◌, ◌<◌, ◌≤◌, List, [], ◌∷◌, length, max, inl, inr, refl, sym, ap, subst, ◌∙◌, arith}
+use Rattle.std.proofs.Common.{◌≡◌, ℕ, zero, suc, ◌+◌, ◌-◌, ◌==◌, if◌then◌else◌, ◌<◌, ◌≤◌, List, [], ◌∷◌, length, max, inl, inr}
+use Rattle.std.proofs.Common.{refl, sym, ap, subst, ◌∙◌, arith}
 use Rattle.std.proofs.lemmas.Bool.{cases_eq, cases_lt, eq-eqb, ne_eqb}
 use Rattle.std.proofs.lemmas.List.{get_or_past}
 use Rattle.rm_types.specs.declared.slots.Slot.{Slot}
 use Rattle.rm_types.specs.declared.slots.Slot.TheVariants.{Vacant, Row}
 use Rattle.rm_types.specs.declared.slots.TheConstants.{CAPACITY}
-use Rattle.rm_model.specs.Pages.{used, row_length, set_slot}
+use Rattle.rm_model.specs.Pages.{used, row_length, set_slot, slot_at}
 use Rattle.rm_model.proofs.Slots.{used-set_slot}
 use Rattle.rm_history.specs.Acts.{Change, History, changes, undoes, enters, commits, ends, marks}
-use Rattle.rm_history.specs.Contents.{slot_at, page_of}
+use Rattle.rm_history.specs.Contents.{page_of}
 use Rattle.rm_history.specs.Pending.{older, pending_of}
 use Rattle.rm_history.specs.Transactions.{greatest_txn}
 use Rattle.rm_history.specs.Needs.{on_page, need_for, need_of, sum_below, FitsOn, Fits}
 use Rattle.rm_history.specs.Room.{others_need, growth_for}
 use Rattle.rm_history.specs.RoomLaws.{FittingIsRoom}
-use Rattle.rm_history.proofs.NeedSums.{sum_below-same, sum_below-one, sum_below-more, used-inside, need_of-change, need_of-change_other, pending_on-change, fits_as_before}
+use Rattle.rm_history.proofs.NeedSums.{sum_below-same, sum_below-one, sum_below-more, used-inside, need_of-change}
+use Rattle.rm_history.proofs.NeedSums.{need_of-change_other, pending_on-change, fits_as_before}
 use Rattle.rm_history.proofs.PendingSteps.{if_different}
 
 -- ---- sums over all numbers but one
@@ -84,11 +86,17 @@ others_fit f g one bound bytes same fits =
 -- a transaction whose id is above all that have records has nothing pending
 pending_past : (history : History) (txn : ℕ) → greatest_txn history < txn → pending_of history txn ≡ []
 pending_past [] txn past = refl
-pending_past (changes c ∷ before) txn past = if_different c.txn txn (c ∷ pending_of before txn) (pending_of before txn) (λ same. omega (arith, same, past)) ∙ pending_past before txn (omega (arith, past))
-pending_past (undoes u ∷ before) txn past = if_different u.txn txn (older (pending_of before txn)) (pending_of before txn) (λ same. omega (arith, same, past)) ∙ pending_past before txn (omega (arith, past))
+pending_past (changes c ∷ before) txn past =
+    if_different c.txn txn (c ∷ pending_of before txn) (pending_of before txn) (λ same. omega (arith, same, past))
+    ∙ pending_past before txn (omega (arith, past))
+pending_past (undoes u ∷ before) txn past =
+    if_different u.txn txn (older (pending_of before txn)) (pending_of before txn) (λ same. omega (arith, same, past))
+    ∙ pending_past before txn (omega (arith, past))
 pending_past (enters e ∷ before) txn past = pending_past before txn (omega (arith, past))
-pending_past (commits f ∷ before) txn past = if_different f.txn txn [] (pending_of before txn) (λ same. omega (arith, same, past)) ∙ pending_past before txn (omega (arith, past))
-pending_past (ends f ∷ before) txn past = if_different f.txn txn [] (pending_of before txn) (λ same. omega (arith, same, past)) ∙ pending_past before txn (omega (arith, past))
+pending_past (commits f ∷ before) txn past =
+    if_different f.txn txn [] (pending_of before txn) (λ same. omega (arith, same, past)) ∙ pending_past before txn (omega (arith, past))
+pending_past (ends f ∷ before) txn past =
+    if_different f.txn txn [] (pending_of before txn) (λ same. omega (arith, same, past)) ∙ pending_past before txn (omega (arith, past))
 pending_past (marks m ∷ before) txn past = pending_past before txn past
 
 -- so it needs nothing
@@ -110,7 +118,8 @@ others_as_before : (before : History) (c : Change) (page k : ℕ) → (k ≡ c.t
 others_as_before before c page k other = need_of-change_other before c k page (λ same. other (sym same))
 
 -- so each page has room with the change where its own has,
-pages_fit : (before : History) (c : Change) → Fits before → bytes_with before c + others_need before c.txn c.rid.page + need_with before c ≤ CAPACITY → Fits (changes c ∷ before)
+pages_fit : (before : History) (c : Change) → Fits before → bytes_with before c + others_need before c.txn c.rid.page + need_with before c ≤ CAPACITY
+    → Fits (changes c ∷ before)
 pages_fit before c fits room page = elim (cases_eq c.rid.page page) [
   | inl here ↦ subst (FitsOn (changes c ∷ before)) here
       (rw (eq-eqb c.rid.page c.rid.page refl)
@@ -122,7 +131,8 @@ pages_fit before c fits room page = elim (cases_eq c.rid.page page) [
 ]
 
 -- and its own has where each has
-page_fits : (before : History) (c : Change) → Fits (changes c ∷ before) → bytes_with before c + others_need before c.txn c.rid.page + need_with before c ≤ CAPACITY
+page_fits : (before : History) (c : Change) → Fits (changes c ∷ before)
+    → bytes_with before c + others_need before c.txn c.rid.page + need_with before c ≤ CAPACITY
 page_fits before c fits =
     others_fit (λ k. need_of before k c.rid.page) (λ k. need_of (changes c ∷ before) k c.rid.page) c.txn (greatest_txn before + 1) (bytes_with before c)
     (others_as_before before c c.rid.page) (λ n. rw (eq-eqb c.rid.page c.rid.page refl) at (fits c.rid.page n))
@@ -137,32 +147,58 @@ inside_where_row slots number row holds = elim (cases_lt number (length slots)) 
 ]
 
 -- a row in a vacant slot adds its bytes and those of the directory
-bytes_of_row : (before : History) (c : Change) (row : List ℕ) → slot_at (page_of before c.rid.page) c.rid.slot ≡ c.before → c.before ≡ Vacant → c.after ≡ Row row
+bytes_of_row : (before : History) (c : Change) (row : List ℕ) → slot_at (page_of before c.rid.page) c.rid.slot ≡ c.before
+    → c.before ≡ Vacant → c.after ≡ Row row
     → bytes_with before c + need_with before c
     ≡ used (page_of before c.rid.page) + growth_for (length (page_of before c.rid.page)) c.rid.slot + max (length row) (need_of before c.txn c.rid.page)
 bytes_of_row before c row held was now =
-    omega (arith, ap row_length held, ap row_length was, ap row_length now, used-set_slot (page_of before c.rid.page) c.rid.slot c.after, need_of-change before c c.rid.page refl)
+    omega (
+      arith,
+      ap row_length held,
+      ap row_length was,
+      ap row_length now,
+      used-set_slot (page_of before c.rid.page) c.rid.slot c.after,
+      need_of-change before c c.rid.page refl,
+    )
 
 -- a row in place of another adds the bytes by which it is longer
-bytes_of_growth : (before : History) (c : Change) (old new : List ℕ) → slot_at (page_of before c.rid.page) c.rid.slot ≡ c.before → c.before ≡ Row old → c.after ≡ Row new
+bytes_of_growth : (before : History) (c : Change) (old new : List ℕ) → slot_at (page_of before c.rid.page) c.rid.slot ≡ c.before
+    → c.before ≡ Row old → c.after ≡ Row new
     → bytes_with before c + need_with before c ≡ used (page_of before c.rid.page) + max (length new - length old) (need_of before c.txn c.rid.page)
 bytes_of_growth before c old new held was now =
     let inside : c.rid.slot < length (page_of before c.rid.page) = inside_where_row (page_of before c.rid.page) c.rid.slot old (held ∙ was) in
-    omega (arith, ap row_length held, ap row_length was, ap row_length now, used-inside (page_of before c.rid.page) c.rid.slot c.after inside, need_of-change before c c.rid.page refl)
+    omega (
+      arith,
+      ap row_length held,
+      ap row_length was,
+      ap row_length now,
+      used-inside (page_of before c.rid.page) c.rid.slot c.after inside,
+      need_of-change before c c.rid.page refl,
+    )
 
 -- and no row in its place adds none
-bytes_of_delete : (before : History) (c : Change) (old : List ℕ) → slot_at (page_of before c.rid.page) c.rid.slot ≡ c.before → c.before ≡ Row old → c.after ≡ Vacant
+bytes_of_delete : (before : History) (c : Change) (old : List ℕ) → slot_at (page_of before c.rid.page) c.rid.slot ≡ c.before
+    → c.before ≡ Row old → c.after ≡ Vacant
     → bytes_with before c + need_with before c ≡ used (page_of before c.rid.page) + need_of before c.txn c.rid.page
 bytes_of_delete before c old held was now =
     let inside : c.rid.slot < length (page_of before c.rid.page) = inside_where_row (page_of before c.rid.page) c.rid.slot old (held ∙ was) in
-    omega (arith, ap row_length held, ap row_length was, ap row_length now, used-inside (page_of before c.rid.page) c.rid.slot c.after inside, need_of-change before c c.rid.page refl)
+    omega (
+      arith,
+      ap row_length held,
+      ap row_length was,
+      ap row_length now,
+      used-inside (page_of before c.rid.page) c.rid.slot c.after inside,
+      need_of-change before c c.rid.page refl,
+    )
 
 -- ---- the law
 
 -- before the change its page has room for its transaction's need beside the others'
-room_before : (before : History) (c : Change) → Fits before → used (page_of before c.rid.page) + others_need before c.txn c.rid.page + need_of before c.txn c.rid.page ≤ CAPACITY
+room_before : (before : History) (c : Change) → Fits before
+    → used (page_of before c.rid.page) + others_need before c.txn c.rid.page + need_of before c.txn c.rid.page ≤ CAPACITY
 room_before before c fits =
-    others_fit (λ k. need_of before k c.rid.page) (λ k. need_of before k c.rid.page) c.txn (greatest_txn before + 1) (used (page_of before c.rid.page)) (λ k other. refl) (fits c.rid.page)
+    others_fit (λ k. need_of before k c.rid.page) (λ k. need_of before k c.rid.page) c.txn (greatest_txn before + 1)
+    (used (page_of before c.rid.page)) (λ k other. refl) (fits c.rid.page)
 
 -- what fits is what leaves each page room
 pub fitting_is_room : FittingIsRoom

@@ -2,8 +2,8 @@
 use Rattle.std.proofs.Common.{◌≡◌, ℕ, ◌<◌, [], ◌∷◌, refl, arith, lit<}
 use Rattle.rm_types.specs.declared.formats.Format.TheVariants.{One}
 use Rattle.rm_types.specs.declared.slots.Slot.TheVariants.{Vacant}
-use Rattle.rm_model.specs.Pages.{used}
-use Rattle.rm_history.specs.Contents.{slot_at, page_of, category_of}
+use Rattle.rm_model.specs.Pages.{used, slot_at}
+use Rattle.rm_history.specs.Contents.{page_of, category_of}
 use Rattle.rm_history.specs.Room.{growth_for, IsExcluded, IsSlotForRow}
 use Rattle.rm_history.proofs.ExampleLogs.{row, deleted}
 
@@ -36,9 +36,9 @@ taken lower below vacant =
     let held : row 1 ≡ Vacant = rw first at vacant in
     absurd cc
 
--- so it is put behind it
-behind_a_row : IsSlotForRow (λ number. ⊥) (row 1 ∷ []) 1
-behind_a_row = record { vacant = refl; free = λ held. held; least = λ lower below vacant free. taken lower below vacant }
+-- so it is put after it
+after_a_row : IsSlotForRow (λ number. ⊥) (row 1 ∷ []) 1
+after_a_row = record { vacant = refl; free = λ held. held; least = λ lower below vacant free. taken lower below vacant }
 
 -- a directory grows by the entries up to the new slot's, and by none for a slot that it has
 growths : (growth_for 1 1 ≡ 4) × (growth_for 1 3 ≡ 12) × (growth_for 2 0 ≡ 0)

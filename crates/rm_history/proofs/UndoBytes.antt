@@ -10,7 +10,8 @@ use Rattle.rm_history.specs.Pending.{of_txn, without_newest, without, all_pendin
 use Rattle.rm_history.specs.Rules.{IsInOrder}
 use Rattle.rm_history.specs.Losers.{with_number, without_number, losers_of, IsAmong}
 use Rattle.rm_history.specs.Undoing.{category_after, entry_for, undo_for, Settles, Undone, Ended}
-use Rattle.rm_history.specs.UndoBytes.{inventory_record, compensate_record, end_record, bytes_of, entry_bytes, some_lsn, with_entry, with_undo, undoing_bytes, ending_bytes, undo_bytes}
+use Rattle.rm_history.specs.UndoBytes.{inventory_record, compensate_record, end_record, bytes_of, entry_bytes, some_lsn}
+use Rattle.rm_history.specs.UndoBytes.{with_entry, with_undo, undoing_bytes, ending_bytes, undo_bytes}
 use Rattle.rm_history.specs.UndoLaws.{UndoBytesGoDown}
 use Rattle.rm_history.proofs.Chains.{last_is_unfinished}
 use Rattle.rm_history.proofs.AllPending.{pending_of-newest, without_newest-head}
@@ -38,14 +39,16 @@ record IsDone (format : Format) (before : History) (last : Change) (new : Histor
   entries : (page : ℕ) → entry_of new page ≡ entry_undone format before last page
 
 -- an entry that is right is what it would be set to
-entry_right : (format : Format) (before : History) (last : Change) (page : ℕ) → entry_of before last.rid.page ≡ category_after format before last → entry_of before page ≡ entry_undone format before last page
+entry_right : (format : Format) (before : History) (last : Change) (page : ℕ)
+    → entry_of before last.rid.page ≡ category_after format before last → entry_of before page ≡ entry_undone format before last page
 entry_right format before last page right = elim (cases_eq last.rid.page page) [
   | inl here ↦ rw (eq-eqb last.rid.page page here) (ap (entry_of before) (sym here) ∙ right)
   | inr other ↦ rw (ne_eqb last.rid.page page other)
 ]
 
 -- the undo of a change, with the entry before it or without, leaves them
-done_by : (format : Format) (before settled : History) (last : Change) (lsn : ℕ) → Settles format before last settled → IsDone format before last (undoes (undo_for lsn last) ∷ settled)
+done_by : (format : Format) (before settled : History) (last : Change) (lsn : ℕ) → Settles format before last settled
+    → IsDone format before last (undoes (undo_for lsn last) ∷ settled)
 done_by format before settled last lsn (inl stays) =
     subst (λ (h : History). IsDone format before last (undoes (undo_for lsn last) ∷ h)) (sym stays.1)
     (record { pages = λ page. refl; entries = λ page. entry_right format before last page stays.0 })
@@ -57,12 +60,15 @@ done_by format before settled last lsn (inr differs) =
 done : (format : Format) (before new : History) (last : Change) → Undone format before last new → IsDone format before last new
 done format before new last undone = subst (IsDone format before last) (sym undone.new_is) (done_by format before undone.settled last undone.lsn undone.settles)
 
--- histories that are alike do not differ in the category behind an undo
-category_alike : (format : Format) (history other : History) (last : Change) → AreAlike history other → category_after format history last ≡ category_after format other last
-category_alike format history other last alike = ap (λ (slots : List Slot). category_of format (set_slot slots last.rid.slot last.before)) (alike.pages last.rid.page)
+-- histories that are alike do not differ in the category after an undo
+category_alike : (format : Format) (history other : History) (last : Change) → AreAlike history other
+    → category_after format history last ≡ category_after format other last
+category_alike format history other last alike =
+    ap (λ (slots : List Slot). category_of format (set_slot slots last.rid.slot last.before)) (alike.pages last.rid.page)
 
--- nor in the pages and entries behind it
-done_alike : (format : Format) (history other new newer : History) (last : Change) → AreAlike history other → IsDone format history last new → IsDone format other last newer → AreAlike new newer
+-- nor in the pages and entries after it
+done_alike : (format : Format) (history other new newer : History) (last : Change) → AreAlike history other → IsDone format history last new
+    → IsDone format other last newer → AreAlike new newer
 done_alike format history other new newer last alike one two = record {
   pages = λ page. one.pages page
       ∙ ap (λ (slots : List Slot). cond (eqb last.rid.page page) (set_slot slots last.rid.slot last.before) slots) (alike.pages page)
@@ -95,21 +101,27 @@ some_undone format history last = record {
 -- ---- the bytes of the undo are those of its records, whatever their LSNs
 
 -- they hang on the pages and entries alone
-entry_bytes_alike : (format : Format) (history other : History) (last : Change) → AreAlike history other → entry_bytes format history last ≡ entry_bytes format other last
+entry_bytes_alike : (format : Format) (history other : History) (last : Change) → AreAlike history other
+    → entry_bytes format history last ≡ entry_bytes format other last
 entry_bytes_alike format history other last alike =
-    ap (λ (entry : ℕ). cond (eqb entry (category_after format history last)) 0 (bytes_of (inventory_record (entry_for format 0 history last)))) (alike.entries last.rid.page)
+    ap (λ (entry : ℕ). cond (eqb entry (category_after format history last)) 0 (bytes_of (inventory_record (entry_for format 0 history last))))
+    (alike.entries last.rid.page)
     ∙ ap (λ (category : ℕ). cond (eqb (entry_of other last.rid.page) category) 0
-    (bytes_of (inventory_record (record { lsn = 0; txn = last.txn; page = last.rid.page; category = category })))) (category_alike format history other last alike)
+    (bytes_of (inventory_record (record { lsn = 0; txn = last.txn; page = last.rid.page; category = category }))))
+    (category_alike format history other last alike)
 
 -- and so do those of undoing these changes
-undoing_bytes_alike : (format : Format) (history other : History) (all : List Change) → AreAlike history other → undoing_bytes format history all ≡ undoing_bytes format other all
+undoing_bytes_alike : (format : Format) (history other : History) (all : List Change) → AreAlike history other
+    → undoing_bytes format history all ≡ undoing_bytes format other all
 undoing_bytes_alike format history other [] alike = refl
 undoing_bytes_alike format history other (last ∷ rest) alike =
     let more : undoing_bytes format (with_undo format history last) rest ≡ undoing_bytes format (with_undo format other last) rest =
     undoing_bytes_alike format (with_undo format history last) (with_undo format other last) rest
     (done_alike format history other (with_undo format history last) (with_undo format other last) last alike
-    (done format history (with_undo format history last) last (some_undone format history last)) (done format other (with_undo format other last) last (some_undone format other last))) in
-    ap (λ (bytes : ℕ). bytes + bytes_of (compensate_record (undo_for 0 last)) + undoing_bytes format (with_undo format history last) rest) (entry_bytes_alike format history other last alike)
+    (done format history (with_undo format history last) last (some_undone format history last))
+    (done format other (with_undo format other last) last (some_undone format other last))) in
+    ap (λ (bytes : ℕ). bytes + bytes_of (compensate_record (undo_for 0 last)) + undoing_bytes format (with_undo format history last) rest)
+    (entry_bytes_alike format history other last alike)
     ∙ ap (λ (bytes : ℕ). entry_bytes format other last + bytes_of (compensate_record (undo_for 0 last)) + bytes) more
 
 -- ---- what is left to undo
@@ -124,7 +136,8 @@ losers_done format before settled last lsn among (inr differs) =
     ap (λ (h : History). with_number last.txn (losers_of h)) differs.1.2 ∙ ap (with_number last.txn) kept ∙ kept
 
 -- and what is pending but the change
-pending_done : (format : Format) (before settled : History) (last : Change) (rest : List Change) (lsn : ℕ) → all_pending before ≡ last ∷ rest → Settles format before last settled
+pending_done : (format : Format) (before settled : History) (last : Change) (rest : List Change) (lsn : ℕ)
+    → all_pending before ≡ last ∷ rest → Settles format before last settled
     → all_pending (undoes (undo_for lsn last) ∷ settled) ≡ rest
 pending_done format before settled last rest lsn is settles =
     let same : all_pending settled ≡ all_pending before = elim settles [
@@ -134,11 +147,13 @@ pending_done format before settled last rest lsn is settles =
     ap (λ (all : List Change). without_newest all last.txn) (same ∙ is) ∙ without_newest-head last rest
 
 -- so the undo of a loser's change takes the bytes of its records from those of the undo that is left
-undo_bytes-loser : (format : Format) (before new : History) (last : Change) (rest : List Change) → IsAmong (losers_of before) last.txn → all_pending before ≡ last ∷ rest → Undone format before last new
+undo_bytes-loser : (format : Format) (before new : History) (last : Change) (rest : List Change) → IsAmong (losers_of before) last.txn
+    → all_pending before ≡ last ∷ rest → Undone format before last new
     → undo_bytes format before ≡ entry_bytes format before last + bytes_of (compensate_record (undo_for 0 last)) + undo_bytes format new
 undo_bytes-loser format before new last rest among is undone =
     let pending : all_pending new ≡ rest = ap all_pending undone.new_is ∙ pending_done format before undone.settled last rest undone.lsn is undone.settles in
-    let losers : losers_of new ≡ losers_of before = ap losers_of undone.new_is ∙ losers_done format before undone.settled last undone.lsn among undone.settles in
+    let losers : losers_of new ≡ losers_of before =
+    ap losers_of undone.new_is ∙ losers_done format before undone.settled last undone.lsn among undone.settles in
     let alike : AreAlike (with_undo format before last) new =
     done_alike format before before (with_undo format before last) new last (record { pages = λ page. refl; entries = λ page. refl })
     (done format before (with_undo format before last) last (some_undone format before last)) (done format before new last undone) in
@@ -151,36 +166,45 @@ undo_bytes-loser format before new last rest among is undone =
 -- ---- the laws
 
 -- the newest of all that is pending is of a loser
-newest_is_of_loser : (history : History) (last : Change) (rest : List Change) → IsInOrder history → all_pending history ≡ last ∷ rest → IsAmong (losers_of history) last.txn
+newest_is_of_loser : (history : History) (last : Change) (rest : List Change) → IsInOrder history → all_pending history ≡ last ∷ rest
+    → IsAmong (losers_of history) last.txn
 newest_is_of_loser history last rest ordered is = elim (losers_are_all history last.txn (newest_has_record history last rest is)) [
   | inl finished ↦ absurd (last_is_unfinished history ordered last.txn last (of_txn last.txn rest) (pending_of-newest history last rest is) finished)
   | inr loses ↦ loses
 ]
 
 -- each undo takes its bytes, and those of the entry before it, from what is left
-pub undo_bytes-undone : (format : Format) (before new : History) (last : Change) (rest : List Change) → IsInOrder before → all_pending before ≡ last ∷ rest → Undone format before last new
+pub undo_bytes-undone : (format : Format) (before new : History) (last : Change) (rest : List Change) → IsInOrder before
+    → all_pending before ≡ last ∷ rest → Undone format before last new
     → undo_bytes format before ≡ entry_bytes format before last + bytes_of (compensate_record (undo_for 0 last)) + undo_bytes format new
-undo_bytes-undone format before new last rest ordered is undone = undo_bytes-loser format before new last rest (newest_is_of_loser before last rest ordered is) is undone
+undo_bytes-undone format before new last rest ordered is undone =
+    undo_bytes-loser format before new last rest (newest_is_of_loser before last rest ordered is) is undone
 
 -- each entry before an undo takes its own
-pub undo_bytes-entered : (format : Format) (before : History) (last : Change) (rest : List Change) (lsn : ℕ) → IsInOrder before → all_pending before ≡ last ∷ rest
+pub undo_bytes-entered : (format : Format) (before : History) (last : Change) (rest : List Change) (lsn : ℕ) → IsInOrder before
+    → all_pending before ≡ last ∷ rest
     → (entry_of before last.rid.page ≡ category_after format before last → ⊥) → newest_lsn before < lsn
-    → undo_bytes format before ≡ bytes_of (inventory_record (entry_for format 0 before last)) + undo_bytes format (enters (entry_for format lsn before last) ∷ before)
+    → undo_bytes format before ≡ bytes_of (inventory_record (entry_for format 0 before last)) + undo_bytes format
+    (enters (entry_for format lsn before last) ∷ before)
 undo_bytes-entered format before last rest lsn ordered is wrong above =
     let mid : History = enters (entry_for format lsn before last) ∷ before in
     let new : History = undoes (undo_for (some_lsn mid) last) ∷ mid in
     let right : entry_of mid last.rid.page ≡ category_after format mid last = rw (eq-eqb last.rid.page last.rid.page refl) in
-    let one : Undone format before last new = record { settled = mid; settles = inr (wrong, (lsn, above, refl)); lsn = some_lsn mid; above = omega arith; new_is = refl } in
+    let one : Undone format before last new =
+    record { settled = mid; settles = inr (wrong, (lsn, above, refl)); lsn = some_lsn mid; above = omega arith; new_is = refl } in
     let two : Undone format mid last new = record { settled = mid; settles = inl (right, refl); lsn = some_lsn mid; above = omega arith; new_is = refl } in
-    let wanted : entry_bytes format before last ≡ bytes_of (inventory_record (entry_for format 0 before last)) = rw (ne_eqb (entry_of before last.rid.page) (category_after format before last) wrong) in
+    let wanted : entry_bytes format before last ≡ bytes_of (inventory_record (entry_for format 0 before last)) =
+    rw (ne_eqb (entry_of before last.rid.page) (category_after format before last) wrong) in
     let none : entry_bytes format mid last ≡ 0 = rw (eq-eqb (entry_of mid last.rid.page) (category_after format mid last) right) in
-    let all : undo_bytes format before ≡ entry_bytes format before last + bytes_of (compensate_record (undo_for 0 last)) + undo_bytes format new = undo_bytes-undone format before new last rest ordered is one in
+    let all : undo_bytes format before ≡ entry_bytes format before last + bytes_of (compensate_record (undo_for 0 last)) + undo_bytes format new =
+    undo_bytes-undone format before new last rest ordered is one in
     let less : undo_bytes format mid ≡ entry_bytes format mid last + bytes_of (compensate_record (undo_for 0 last)) + undo_bytes format new =
     undo_bytes-loser format mid new last rest (with_number-there last.txn (losers_of before)) is two in
     omega (arith, wanted, none, all, less)
 
--- and behind all undo each end takes its own
-pub undo_bytes-ended : (format : Format) (before new : History) (txn : ℕ) (rest : List ℕ) → all_pending before ≡ [] → losers_of before ≡ txn ∷ rest → Ended before txn new
+-- and after all undo each end takes its own
+pub undo_bytes-ended : (format : Format) (before new : History) (txn : ℕ) (rest : List ℕ) → all_pending before ≡ []
+    → losers_of before ≡ txn ∷ rest → Ended before txn new
     → undo_bytes format before ≡ bytes_of (end_record txn) + undo_bytes format new
 undo_bytes-ended format before new txn rest none are ended =
     let after : History = ends (record { lsn = ended.lsn; txn = txn }) ∷ before in

@@ -1,11 +1,14 @@
--- The definitions of what restart undoes and of the bytes of that, on examples.
+-- The definitions of what restart undoes, of what it leaves and of the bytes of that, on examples.
 use Rattle.std.proofs.Common.{◌≡◌, [], ◌∷◌, refl}
 use Rattle.rm_types.specs.declared.formats.Format.TheVariants.{One}
+use Rattle.rm_types.specs.declared.slots.Slot.TheVariants.{Vacant}
 use Rattle.rm_model.specs.Pages.{used}
 use Rattle.rm_history.specs.Contents.{page_of}
+use Rattle.rm_history.specs.Rows.{settled_of}
 use Rattle.rm_history.specs.Losers.{losers_of}
 use Rattle.rm_history.specs.UndoBytes.{undo_bytes}
-use Rattle.rm_history.proofs.ExampleLogs.{deleted, undone, ended, the_last_first, in_turn, falls_behind, stays_behind, two_pending, two_long_pending, not_entered}
+use Rattle.rm_history.proofs.ExampleLogs.{row, deleted, undone, ended, the_last_first, in_turn, falls_behind, stays_behind}
+use Rattle.rm_history.proofs.ExampleLogs.{two_pending, two_long_pending, not_entered}
 
 -- ---- losers
 
@@ -21,13 +24,23 @@ loser_of_undo = (refl, refl)
 losers_in_order : (losers_of the_last_first ≡ 1 ∷ 3 ∷ []) × (losers_of in_turn ≡ 1 ∷ 2 ∷ 3 ∷ [])
 losers_in_order = (refl, refl)
 
+-- ---- pages
+
+-- a row that is deleted and not committed so is there again, and one that is inserted and not committed leaves its slot vacant
+settled_pages : (settled_of deleted 0 ≡ row 4000 ∷ []) × (settled_of undone 0 ≡ Vacant ∷ []) × (settled_of the_last_first 0 ≡ Vacant ∷ row 1 ∷ Vacant ∷ [])
+settled_pages = (refl, refl, refl)
+
+-- a page without slots has none
+settled_elsewhere : settled_of deleted 1 ≡ []
+settled_elsewhere = refl
+
 -- ---- bytes
 
 -- a delete undone: the category that the page has with the row again (15), the compensation with the row (4,035), and the end (10)
 bytes_of_delete : undo_bytes One deleted ≡ 4060
 bytes_of_delete = refl
 
--- with nothing pending: the end alone, and behind it nothing
+-- with nothing pending: the end alone, and after it nothing
 bytes_of_ends : (undo_bytes One undone ≡ 10) × (undo_bytes One ended ≡ 0)
 bytes_of_ends = (refl, refl)
 
@@ -43,7 +56,7 @@ bytes_with_entry = (refl, refl)
 bytes_without_entry : (used (page_of stays_behind 0) ≡ 1132) × (undo_bytes One stays_behind ≡ 43)
 bytes_without_entry = (refl, refl)
 
--- behind the first of two undos the entry is right for the second: one record of it (15), two compensations (33 each), and the end (10)
+-- after the first of two undos the entry is right for the second: one record of it (15), two compensations (33 each), and the end (10)
 bytes_of_two : undo_bytes One two_pending ≡ 91
 bytes_of_two = refl
 
@@ -51,6 +64,6 @@ bytes_of_two = refl
 bytes_of_two_long : (used (page_of two_long_pending 0) ≡ 2208) × (undo_bytes One two_long_pending ≡ 106)
 bytes_of_two_long = (refl, refl)
 
--- behind the first undo a category that was not entered yet is, and behind the second the one without the rows: two records too
+-- after the first undo a category that was not entered yet is, and after the second the one without the rows: two records too
 bytes_of_not_entered : (used (page_of not_entered 0) ≡ 1208) × (undo_bytes One not_entered ≡ 106)
 bytes_of_not_entered = (refl, refl)

@@ -1,31 +1,27 @@
 -- A transaction's last pending change can always be undone: its page has the room.
-use Rattle.std.proofs.Common.{◌≡◌, inl, inr, ℕ, zero, suc, ◌+◌, ◌<◌, ◌≤◌, List, [], ◌∷◌, length, refl, sym, ap, subst, ◌∙◌, arith}
+use Rattle.std.proofs.Common.{◌≡◌, inl, inr, ℕ, ◌+◌, ◌<◌, ◌≤◌, List, [], ◌∷◌, length, refl, sym, ap, subst, ◌∙◌, arith}
 use Rattle.std.proofs.lemmas.Bool.{cases_eq, eq-eqb, ne_eqb}
 use Rattle.rm_types.specs.declared.formats.Format.{Format}
 use Rattle.rm_types.specs.declared.formats.Format.TheVariants.{One}
-use Rattle.rm_model.specs.Pages.{used, row_length, set_slot}
+use Rattle.rm_model.specs.Pages.{used, row_length, set_slot, slot_at}
 use Rattle.rm_history.specs.Acts.{Change, Undo, Entry, History, undoes, newest_lsn}
-use Rattle.rm_history.specs.Contents.{slot_at, page_of, entry_of}
+use Rattle.rm_history.specs.Contents.{page_of, entry_of}
 use Rattle.rm_history.specs.Pending.{pending_of}
 use Rattle.rm_history.specs.Transactions.{IsFinished}
 use Rattle.rm_history.specs.Rows.{rows_of_log}
-use Rattle.rm_history.specs.Needs.{need_of, sum_below, Fits}
+use Rattle.rm_history.specs.Needs.{need_of, Fits}
 use Rattle.rm_history.specs.Rules.{MayUndo, MayEnter, Follows, IsInOrder}
 use Rattle.rm_history.specs.Legal.{EntriesFollow, IsLegal}
 use Rattle.rm_history.specs.Undoing.{category_after, entry_for, undo_for, Settles, Undone}
 use Rattle.rm_history.specs.UndoLaws.{IsUndone, UndoesAreInOrder, NoUndoLacksRoom}
-use Rattle.rm_history.proofs.NeedSums.{room_kept, used-inside, pending_of-undo, pending_on-undo, need_of-undo, need_of-undo_other, fits_as_before}
+use Rattle.rm_history.proofs.NeedSums.{sum_below-zero, room_kept, used-inside, pending_of-undo, pending_on-undo, need_of-undo}
+use Rattle.rm_history.proofs.NeedSums.{need_of-undo_other, fits_as_before}
 use Rattle.rm_history.proofs.Following.{entries_follow_undo, entries_follow_entry}
 use Rattle.rm_history.proofs.Prefixes.{legal_is_in_order}
 use Rattle.rm_history.proofs.PendingSteps.{pending-undo_other}
 use Rattle.rm_history.proofs.Chains.{last_is_of, last_is_inside, last_is_held}
 
 -- ---- what is known of a legal history
-
--- nothing adds up to nothing
-sum_below-zero : (n : ℕ) → sum_below (λ k. 0) n ≡ 0
-sum_below-zero zero = refl
-sum_below-zero (suc n) = omega (arith, sum_below-zero n)
 
 -- each page of a history in order fits
 pub fits_in_order : (history : History) → IsInOrder history → Fits history
@@ -48,7 +44,8 @@ record HasEntry (format : Format) (before : History) (last : Change) (new : Hist
   entered : entry_of new last.rid.page ≡ category_after format new last
 
 -- so settling gives that history: the record that enters it may come, and keeps the inventory
-entered_by : (format : Format) (before settled : History) (last : Change) (rest : List Change) → IsLegal format before → (IsFinished before last.txn → ⊥) → pending_of before last.txn ≡ last ∷ rest
+entered_by : (format : Format) (before settled : History) (last : Change) (rest : List Change) → IsLegal format before
+    → (IsFinished before last.txn → ⊥) → pending_of before last.txn ≡ last ∷ rest
     → Settles format before last settled → HasEntry format before last settled
 entered_by format before settled last rest legal unfinished is (inl stays) =
     subst (λ (h : History). HasEntry format before last h) (sym stays.1)
@@ -80,7 +77,8 @@ record Stands (history : History) (last : Change) : Type 0 where
   holds : slot_at (page_of history last.rid.page) last.rid.slot ≡ last.after
 
 -- on the change's page the undo gives up no more room than is kept for it
-room_for_undo : (before : History) (last : Change) (rest : List Change) (lsn page : ℕ) → pending_of before last.txn ≡ last ∷ rest → Stands before last → last.rid.page ≡ page
+room_for_undo : (before : History) (last : Change) (rest : List Change) (lsn page : ℕ) → pending_of before last.txn ≡ last ∷ rest
+    → Stands before last → last.rid.page ≡ page
     → used (set_slot (page_of before page) last.rid.slot last.before) + need_of (undoes (undo_for lsn last) ∷ before) last.txn page
     ≤ used (page_of before page) + need_of before last.txn page
 room_for_undo before last rest lsn page is stands here =
@@ -105,7 +103,8 @@ undo_fits before last rest lsn is stands fits page =
     ]
 
 -- the compensation may come
-compensation_comes : (before : History) (last : Change) (rest : List Change) (lsn : ℕ) → (IsFinished before last.txn → ⊥) → pending_of before last.txn ≡ last ∷ rest
+compensation_comes : (before : History) (last : Change) (rest : List Change) (lsn : ℕ) → (IsFinished before last.txn → ⊥)
+    → pending_of before last.txn ≡ last ∷ rest
     → MayUndo before (undo_for lsn last)
 compensation_comes before last rest lsn unfinished is = record {
   unfinished = unfinished;
@@ -120,11 +119,14 @@ compensation_comes before last rest lsn unfinished is = record {
 -- ---- the theorem
 
 -- in a history in order each transaction's newest pending change stands
-newest_stands : (history : History) → IsInOrder history → (txn : ℕ) (last : Change) (rest : List Change) → pending_of history txn ≡ last ∷ rest → Stands history last
-newest_stands history ordered txn last rest is = record { inside = last_is_inside history txn last rest is; holds = last_is_held history ordered txn last rest is }
+newest_stands : (history : History) → IsInOrder history → (txn : ℕ) (last : Change) (rest : List Change)
+    → pending_of history txn ≡ last ∷ rest → Stands history last
+newest_stands history ordered txn last rest is =
+    record { inside = last_is_inside history txn last rest is; holds = last_is_held history ordered txn last rest is }
 
 -- so its compensation may come after the history
-undo_follows : (before : History) (last : Change) (rest : List Change) (lsn : ℕ) → IsInOrder before → (IsFinished before last.txn → ⊥) → pending_of before last.txn ≡ last ∷ rest
+undo_follows : (before : History) (last : Change) (rest : List Change) (lsn : ℕ) → IsInOrder before → (IsFinished before last.txn → ⊥)
+    → pending_of before last.txn ≡ last ∷ rest
     → newest_lsn before < lsn → Follows before (undoes (undo_for lsn last))
 undo_follows before last rest lsn ordered unfinished is above = record {
   above = above;
@@ -133,7 +135,8 @@ undo_follows before last rest lsn ordered unfinished is above = record {
 }
 
 -- undone in a history in which its page has the right entry
-undone_by : (format : Format) (before : History) (last : Change) (rest : List Change) (lsn : ℕ) → IsLegal format before → (IsFinished before last.txn → ⊥) → pending_of before last.txn ≡ last ∷ rest
+undone_by : (format : Format) (before : History) (last : Change) (rest : List Change) (lsn : ℕ) → IsLegal format before
+    → (IsFinished before last.txn → ⊥) → pending_of before last.txn ≡ last ∷ rest
     → entry_of before last.rid.page ≡ category_after format before last → newest_lsn before < lsn
     → IsUndone format before last.txn rest (undoes (undo_for lsn last) ∷ before)
 undone_by format before last rest lsn legal unfinished is entered above = record {
@@ -142,7 +145,8 @@ undone_by format before last rest lsn legal unfinished is entered above = record
     undo_follows before last rest lsn (legal_is_in_order format before legal) unfinished is above,
     record {
       entered = entered;
-      follow = entries_follow_undo format before (undo_for lsn last) (compensation_comes before last rest lsn unfinished is) entered (entries_follow format before legal);
+      follow = entries_follow_undo format before (undo_for lsn last) (compensation_comes before last rest lsn unfinished is) entered
+          (entries_follow format before legal);
     },
   );
   pending = pending_of-undo before (undo_for lsn last) last rest is;
@@ -152,7 +156,8 @@ undone_by format before last rest lsn legal unfinished is entered above = record
 }
 
 -- a transaction's last pending change, undone with the entry of its page before it
-undone_mine : (format : Format) (before new : History) (last : Change) (rest : List Change) → IsLegal format before → (IsFinished before last.txn → ⊥) → pending_of before last.txn ≡ last ∷ rest
+undone_mine : (format : Format) (before new : History) (last : Change) (rest : List Change) → IsLegal format before
+    → (IsFinished before last.txn → ⊥) → pending_of before last.txn ≡ last ∷ rest
     → Undone format before last new → IsUndone format before last.txn rest new
 undone_mine format before new last rest legal unfinished is undone =
     let mid : History = undone.settled in
@@ -172,8 +177,11 @@ undone_mine format before new last rest legal unfinished is undone =
 -- an undo is in order
 pub undoes_are_in_order : UndoesAreInOrder
 undoes_are_in_order before txn lsn last rest ordered unfinished is above =
-    let mine : last.txn ≡ txn = last_is_of before txn last rest is in
-    (ordered, undo_follows before last rest lsn ordered (λ f. unfinished (subst (λ (t : ℕ). IsFinished before t) mine f)) (ap (pending_of before) mine ∙ is) above)
+    let mine : last.txn ≡ txn = last_is_of before txn last rest is in (
+      ordered,
+      undo_follows before last rest lsn ordered (λ f. unfinished (subst (λ (t : ℕ). IsFinished before t) mine f))
+          (ap (pending_of before) mine ∙ is) above,
+    )
 
 -- no undo lacks room
 pub no_undo_lacks_room : NoUndoLacksRoom

@@ -40,9 +40,9 @@ won-append log rows [] second = refl
 won-append log rows (txn ∷ first) second = won-append log (made rows (net log txn)) first second
 
 -- the winners of a history with a record more
-won_behind : (log : History) (rows : Rows) (newest : Act) (before : History)
+won_after : (log : History) (rows : Rows) (newest : Act) (before : History)
     → won log rows (winners (reverse (newest ∷ before))) ≡ won log (won log rows (winners (reverse before))) (winners (newest ∷ []))
-won_behind log rows newest before =
+won_after log rows newest before =
     ap (λ (acts : History). won log rows (winners acts)) (reverse-cons newest before)
     ∙ ap (won log rows) (winners-append (reverse before) (newest ∷ []))
     ∙ won-append log rows (winners (reverse before)) (winners (newest ∷ []))
@@ -52,14 +52,14 @@ won_agrees : (log other : History) (rows : Rows) (history : History) → ((txn :
     → won log rows (winners (reverse history)) ≡ won other rows (winners (reverse history))
 won_agrees log other rows [] agree = refl
 won_agrees log other rows (commits f ∷ before) agree =
-    won_behind log rows (commits f) before
+    won_after log rows (commits f) before
     ∙ ap (λ (r : Rows). made r (net log f.txn)) (won_agrees log other rows before (λ txn done. agree txn (inr done)))
     ∙ ap (made (won other rows (winners (reverse before)))) (agree f.txn (inl refl))
-    ∙ sym (won_behind other rows (commits f) before)
+    ∙ sym (won_after other rows (commits f) before)
 won_agrees log other rows (ends f ∷ before) agree =
-    won_behind log rows (ends f) before ∙ won_agrees log other rows before (λ txn done. agree txn (inr done)) ∙ sym (won_behind other rows (ends f) before)
+    won_after log rows (ends f) before ∙ won_agrees log other rows before (λ txn done. agree txn (inr done)) ∙ sym (won_after other rows (ends f) before)
 won_agrees log other rows (act ∷ before) agree =
-    won_behind log rows act before ∙ won_agrees log other rows before agree ∙ sym (won_behind other rows act before)
+    won_after log rows act before ∙ won_agrees log other rows before agree ∙ sym (won_after other rows act before)
 
 -- ---- net changes
 
@@ -74,7 +74,8 @@ finished_is_foreign (undoes u) before txn may done = λ same. may.unfinished (su
 finished_is_foreign other before txn may done = tt
 
 -- so its net changes stay
-finished_net_stays : (act : Act) (before : History) (txn : ℕ) → IsInOrder (act ∷ before) → IsFinished before txn → net (reverse (act ∷ before)) txn ≡ net (reverse before) txn
+finished_net_stays : (act : Act) (before : History) (txn : ℕ) → IsInOrder (act ∷ before) → IsFinished before txn
+    → net (reverse (act ∷ before)) txn ≡ net (reverse before) txn
 finished_net_stays act before txn in_order done =
     net_in_order (act ∷ before) txn
     ∙ ap reverse (net_stays act before txn in_order (finished_is_foreign act before txn in_order.1.may_come done))
@@ -89,11 +90,11 @@ committed_net f before in_order =
 -- ---- rows
 
 -- the rows of a log with a record more: those that were there, and then those of the transaction that it commits
-rows_behind : (act : Act) (before : History) → IsInOrder (act ∷ before) → rows_of_acts (reverse before) ≡ rows_of_log before
+rows_after : (act : Act) (before : History) → IsInOrder (act ∷ before) → rows_of_acts (reverse before) ≡ rows_of_log before
     → rows_of_acts (reverse (act ∷ before)) ≡ won (reverse (act ∷ before)) (rows_of_log before) (winners (act ∷ []))
-rows_behind act before in_order same =
+rows_after act before in_order same =
     let log = reverse (act ∷ before) in
-    won_behind log (λ rid. None) act before
+    won_after log (λ rid. None) act before
     ∙ ap (λ (r : Rows). won log r (winners (act ∷ [])))
     (won_agrees log (reverse before) (λ rid. None) before (λ txn done. finished_net_stays act before txn in_order done) ∙ same)
 
@@ -101,10 +102,10 @@ rows_behind act before in_order same =
 pub winners_make_rows : (history : History) → IsInOrder history → rows_of_acts (reverse history) ≡ rows_of_log history
 winners_make_rows [] in_order = refl
 winners_make_rows (commits f ∷ before) in_order =
-    rows_behind (commits f) before in_order (winners_make_rows before in_order.0)
+    rows_after (commits f) before in_order (winners_make_rows before in_order.0)
     ∙ ap (made (rows_of_log before)) (committed_net f before in_order)
     ∙ made-reverse (rows_of_log before) (pending_of before f.txn)
-winners_make_rows (other ∷ before) in_order = rows_behind other before in_order (winners_make_rows before in_order.0)
+winners_make_rows (other ∷ before) in_order = rows_after other before in_order (winners_make_rows before in_order.0)
 
 -- the two ways of saying which rows are committed are one
 pub rows_are_of_winners : RowsAreOfWinners

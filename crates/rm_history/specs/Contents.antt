@@ -1,5 +1,5 @@
 -- What a history says of pages and of the inventory.
-use Rattle.std.specs.Prelude.{ℕ, ◌==◌, ◌/◌, if◌then◌else◌, List, [], ◌∷◌, min, slice_index_or, Option, Some, None}
+use Rattle.std.specs.Prelude.{ℕ, ◌==◌, ◌/◌, if◌then◌else◌, List, [], ◌∷◌, min, Option, Some, None}
 use Rattle.rm_types.specs.declared.slots.Slot.{Slot}
 use Rattle.rm_types.specs.declared.slots.Slot.TheVariants.{Vacant, Row}
 use Rattle.rm_types.specs.declared.formats.Format.{Format}
@@ -7,10 +7,6 @@ use Rattle.rm_types.specs.declared.numbers.TheConstants.{BLOCK_PAGES}
 use Rattle.rm_types.specs.Formats.{category_bytes, greatest_category}
 use Rattle.rm_model.specs.Pages.{used, set_slot}
 use Rattle.rm_history.specs.Acts.{Act, History, changes, undoes, enters, commits, ends, marks}
-
--- what a slot holds: nothing past the directory
-abbrev pub slot_at : List Slot → ℕ → Slot
-slot_at slots number = slice_index_or slots number Vacant
 
 -- what a slot holds where there is such a row, or none
 abbrev pub slot_of : Option (List ℕ) → Slot

@@ -5,9 +5,9 @@ use Rattle.rm_types.specs.declared.numbers.Rid.{Rid}
 use Rattle.rm_outside.specs.Images.{Bytes}
 use Rattle.rm_record.specs.declared.records.Logged.{Logged}
 use Rattle.rm_history.specs.Logs.{Batch, HasLog}
-use Rattle.rm_model.specs.Pages.{row_at}
+use Rattle.rm_model.specs.Pages.{row_at, slot_at}
 use Rattle.rm_history.specs.Acts.{Change, History, act_of}
-use Rattle.rm_history.specs.Contents.{slot_at, slot_of, page_of}
+use Rattle.rm_history.specs.Contents.{slot_of, page_of}
 use Rattle.rm_history.specs.Pending.{pending_of, of_txn, all_pending, last_of, AreFalling}
 use Rattle.rm_history.specs.Transactions.{IsFinished, HasRecord}
 use Rattle.rm_history.specs.Losers.{losers_of, IsAmong, AreRising}

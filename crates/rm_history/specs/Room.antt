@@ -5,9 +5,9 @@ use Rattle.rm_types.specs.declared.slots.Slot.{Slot}
 use Rattle.rm_types.specs.declared.slots.Slot.TheVariants.{Vacant}
 use Rattle.rm_types.specs.declared.slots.TheConstants.{CAPACITY, SLOT_ENTRY}
 use Rattle.rm_types.specs.Formats.{category_bytes}
-use Rattle.rm_model.specs.Pages.{used}
+use Rattle.rm_model.specs.Pages.{used, slot_at}
 use Rattle.rm_history.specs.Acts.{History}
-use Rattle.rm_history.specs.Contents.{slot_at, page_of}
+use Rattle.rm_history.specs.Contents.{page_of}
 use Rattle.rm_history.specs.Transactions.{greatest_txn}
 use Rattle.rm_history.specs.Needs.{need_of, sum_below}
 

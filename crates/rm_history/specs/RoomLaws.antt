@@ -2,9 +2,9 @@
 use Rattle.std.specs.Prelude.{◌≡◌, ℕ, ◌+◌, ◌-◌, List, [], ◌∷◌, length, ◌↔◌}
 use Rattle.rm_types.specs.declared.formats.Format.{Format}
 use Rattle.rm_types.specs.declared.slots.Slot.TheVariants.{Vacant, Row}
-use Rattle.rm_model.specs.Pages.{row_length}
+use Rattle.rm_model.specs.Pages.{row_length, slot_at}
 use Rattle.rm_history.specs.Acts.{Change, History, changes}
-use Rattle.rm_history.specs.Contents.{slot_at, page_of}
+use Rattle.rm_history.specs.Contents.{page_of}
 use Rattle.rm_history.specs.Pending.{pending_of}
 use Rattle.rm_history.specs.Transactions.{IsFinished}
 use Rattle.rm_history.specs.Needs.{on_page, need_for, need_of, Fits}

@@ -3,7 +3,8 @@ use Rattle.std.specs.Prelude.{◌≡◌, ℕ, ◌<◌, List, [], ◌∷◌, ◌�
 use Rattle.rm_types.specs.declared.places.Place.{Place}
 use Rattle.rm_history.specs.Acts.{Act, Change, Undo, Entry, Finish, History, changes, undoes, enters, commits, ends, marks, lsn_of, newest_lsn}
 use Rattle.rm_history.specs.Acts.{Mark, Listing, lists}
-use Rattle.rm_history.specs.Contents.{slot_at, page_of}
+use Rattle.rm_model.specs.Pages.{slot_at}
+use Rattle.rm_history.specs.Contents.{page_of}
 use Rattle.rm_history.specs.Pending.{pending_of, last_of}
 use Rattle.rm_history.specs.Transactions.{IsFinished, HasRecord, HasChange}
 use Rattle.rm_history.specs.Needs.{need_of, Fits}

@@ -66,7 +66,7 @@ has_fields = record {
   rules = record {
     file = record { known = refl; some_pages = lit≤ tt; few_pages = lit≤ tt };
     checkpoint =
-        record { batch_within = lit≤ tt; within = lit≤ tt; none = λ is. absurd (omega (arith, is)); behind_batch = λ some. lit≤ tt };
+        record { batch_within = lit≤ tt; within = lit≤ tt; none = λ is. absurd (omega (arith, is)); after_batch = λ some. lit≤ tt };
     copy = record {
       known = lit≤ tt;
       start_within = lit≤ tt;

@@ -21,8 +21,8 @@ pub fn no_redo_offset_is_before_the_redo_point()
     ensures { RedoPointIsLeast }
 {}
 
-/// The redo point of a sound image is a gate. In order, each redo offset is one too, and is not after the
-/// checkpoint's batch.
+/// Of a sound image whose log is in order: the redo point and each redo offset is a gate, and no redo offset
+/// is after the checkpoint's batch.
 pub fn redo_begins_at_gates<R: HistoryRules>()
     ensures { RedoBeginsAtGates R.rules }
 {}

@@ -1,3 +1,4 @@
 pub mod SlotLemmas
 pub mod Clearing
 pub mod Writing
+pub mod Making

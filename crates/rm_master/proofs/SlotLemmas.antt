@@ -8,7 +8,7 @@ use Rattle.rm_outside.specs.Images.{Bytes, Shows}
 use Rattle.rm_master.specs.declared.fields.Fields.{Fields}
 use Rattle.rm_master.specs.Fields.{IsFields, AreInRange, flag_byte, slot_bytes}
 
--- so many elements from that index on
+-- this many elements from that index on
 abbrev pub cells : ℕ → ℕ → List ℕ → List ℕ
 cells zero i bs = []
 cells (suc n) i bs = get_or bs i 0 ∷ cells n (suc i) bs

@@ -3,20 +3,21 @@ use Rattle.std.proofs.Common.{◌≡◌, ℕ, ◌+◌, ◌-◌, ◌%◌, ◌≤�
 use Rattle.std.proofs.lemmas.Bool.{cases_eq}
 use Rattle.rm_types.specs.declared.areas.Area.TheVariants.{Master}
 use Rattle.rm_types.specs.declared.numbers.TheConstants.{MAX_PAGES}
-use Rattle.rm_outside.specs.Images.{Bytes, Image, Shows, Torn}
-use Rattle.rm_outside.specs.Moments.{Follows, IsDurable}
+use Rattle.rm_outside.specs.Images.{Bytes, Image, KeepsOthers, Shows, Torn}
+use Rattle.rm_outside.specs.Moments.{ComesBy, joined, weaker}
+use Rattle.rm_outside.specs.Calls.{Facts, Writing}
+use Rattle.rm_outside.proofs.CallLemmas.{counts_then}
 use Rattle.rm_master.specs.declared.fields.Fields.{Fields}
 use Rattle.rm_master.specs.declared.fields.TheConstants.{MADE, MADE_AT, PARITY_AT}
 use Rattle.rm_master.specs.Fields.{IsFields, slot_bytes, fresh_fields}
 use Rattle.rm_master.specs.Slots.{slot_at, current, HasSlot, HasFields, Stands, GoesTo}
-use Rattle.rm_master.specs.Steps.{After, KeepsOthers}
 use Rattle.rm_master.proofs.SlotLemmas.{length-slot_bytes}
 
 -- the fields of a new volume keep the rules
 pub fresh-IsFields : (pages : ℕ) → 1 ≤ pages → pages ≤ MAX_PAGES → IsFields (fresh_fields pages)
 fresh-IsFields pages some few = record {
   file = record { known = refl; some_pages = some; few_pages = few };
-  checkpoint = record { batch_within = omega arith; within = omega arith; none = λ _. refl; behind_batch = λ some. absurd (some refl) };
+  checkpoint = record { batch_within = omega arith; within = omega arith; none = λ _. refl; after_batch = λ some. absurd (some refl) };
   copy = record { known = omega arith; start_within = omega arith; copied_within = omega arith; some_copied = λ some. absurd (some refl); not_restoring = λ _. refl; no_start = λ _. refl; none_copied = λ _. refl };
 }
 
@@ -83,33 +84,40 @@ parity_goes slot fields next old new small rules torn stands shown = elim (cases
     at_slot : Shows (old Master) (slot_at slot) (slot_bytes fields)
     at_slot = let P : ℕ → Type 0 = λ n. Shows (old Master) (slot_at n) (slot_bytes fields) in subst P stands.is_current stands.has.slot
 
--- a master that was read stands in each image, where its area is durable
-pub stands_in_each : (slot : ℕ) (fields : Fields) (told : Type 0) (content : Image) (may_leave : Image → Type 0) → IsDurable Master content may_leave → ((c : Image) → may_leave c → told)
-    → (told → Stands slot fields (content Master)) → (c : Image) → may_leave c → Stands slot fields (c Master)
-stands_in_each slot fields told content may_leave durable tells stands c left = subst (Stands slot fields) (sym (durable.each c left)) (stands (tells c left))
-
--- the images of a master's write
-module _ (slot : ℕ) (fields next : Fields) (small : slot < 2) (rules : IsFields next) (old mid : Image → Type 0) (stand : (c : Image) → old c → Stands slot fields (c Master)) where
-  abbrev SlotStep : Image → Image → Type 0
-  SlotStep = Torn Master (slot_at (1 - slot)) (slot_bytes next)
-
-  abbrev ParityStep : Image → Image → Type 0
-  ParityStep = Torn Master PARITY_AT ((1 - slot) ∷ [])
-
-  -- after the first of its two writes
-  pub goes_first : (c : Image) → After SlotStep old c → After (GoesTo fields next) old c
+-- the calls of a master's write
+module _ (slot : ℕ) (fields next : Fields) (small : slot < 2) (rules : IsFields next) {a b : Facts} (stand : (c : Image) → a.may_leave c → Stands slot fields (c Master))
+    (first : Writing (Torn Master (slot_at (1 - slot)) (slot_bytes next)) (Torn Master (slot_at (1 - slot)) (slot_bytes next)) a b) where
+  goes_first : (c : Image) → ComesBy (Torn Master (slot_at (1 - slot)) (slot_bytes next)) a.may_leave c → ComesBy (GoesTo fields next) a.may_leave c
   goes_first c (d, was, torn) = (d, was, slot_goes slot fields next d c small torn (stand d was))
 
-  -- after the second
-  pub goes_second : Follows SlotStep old mid → ((c : Image) → mid c → Shows (c Master) (slot_at (1 - slot)) (slot_bytes next)) → (c : Image) → After ParityStep mid c → After (GoesTo fields next) old c
-  goes_second follows shown c (e, half, torn) =
-      let before = follows.each e half in
-      let d = before.0 in
-      let stands = stands_on slot fields next d e small before.2 (stand d before.1) in (
-        d,
-        before.1,
-        record {
-          others = record { each = λ other ne. torn.areas other ne ∙ before.2.areas other ne };
-          master = parity_goes slot fields next e c small rules torn stands (shown e half);
-        },
-      )
+  -- after the slot is written
+  pub slot_written : Writing (KeepsOthers Master) (GoesTo fields next) a b
+  slot_written = record {
+    content = torn_others _ _ _ _ first.content;
+    crash = record { each = λ c now. goes_first c (first.crash.each c now) };
+    time = weaker first.time goes_first;
+    counts = first.counts;
+  }
+
+  -- and after the parity byte is
+  module _ {e : Facts} (shown : (c : Image) → b.may_leave c → Shows (c Master) (slot_at (1 - slot)) (slot_bytes next)) (second : Writing (Torn Master PARITY_AT ((1 - slot) ∷ [])) (Torn Master PARITY_AT ((1 - slot) ∷ [])) b e) where
+    goes_second : (c : Image) → ComesBy (Torn Master PARITY_AT ((1 - slot) ∷ [])) b.may_leave c → ComesBy (GoesTo fields next) a.may_leave c
+    goes_second c (half, now, torn) =
+        let before = first.crash.each half now in
+        let d = before.0 in
+        let stands = stands_on slot fields next d half small before.2 (stand d before.1) in (
+          d,
+          before.1,
+          record {
+            others = record { each = λ other ne. torn.areas other ne ∙ before.2.areas other ne };
+            master = parity_goes slot fields next half c small rules torn stands (shown half now);
+          },
+        )
+
+    pub parity_written : Writing (KeepsOthers Master) (GoesTo fields next) a e
+    parity_written = record {
+      content = record { each = λ other ne. second.content.areas other ne ∙ first.content.areas other ne };
+      crash = record { each = λ c now. goes_second c (second.crash.each c now) };
+      time = joined slot_written.time (weaker second.time goes_second);
+      counts = counts_then first.counts second.counts;
+    }

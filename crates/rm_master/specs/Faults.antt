@@ -1,45 +1,30 @@
--- What each error of a call on a volume says.
-use Rattle.std.specs.Prelude.{ℕ, ⊤}
+-- What each error of a call on a volume's master says.
+use Rattle.std.specs.Prelude.{◌≡◌, ℕ, IsTrue}
 use Rattle.rm_types.specs.declared.areas.Area.{Area}
+use Rattle.rm_types.specs.declared.areas.Area.TheVariants.{Master}
 use Rattle.rm_types.specs.declared.faults.Fault.{Fault}
-use Rattle.rm_types.specs.declared.faults.Fault.TheVariants.{Volume, Damaged}
+use Rattle.rm_types.specs.declared.faults.Fault.TheVariants as fault
+use Rattle.rm_outside.specs.declared.volume.Volume.{Ghosts}
+use Rattle.rm_outside.specs.Calls.{IsAllSynced, IsVolumeFault, OnlyReads}
 use Rattle.rm_outside.specs.Faults.{Rises}
 use Rattle.rm_master.specs.declared.faults.MasterFault.{MasterFault}
-use Rattle.rm_master.specs.declared.faults.MasterFault.TheVariants.{NotMade, Fault as ReadFault}
+use Rattle.rm_master.specs.declared.faults.MasterFault.TheVariants as read
 use Rattle.rm_master.specs.declared.faults.CreateFault.{CreateFault}
-use Rattle.rm_master.specs.declared.faults.CreateFault.TheVariants.{AlreadyMade, Fault as WriteFault}
+use Rattle.rm_master.specs.declared.faults.CreateFault.TheVariants as create
+use Rattle.rm_master.specs.Slots.{slot_at, HasNoFields, IsDamagedAt, IsMade, IsUnmade}
 
--- an area of the volume failed, whose count rose; nothing is damaged
-abbrev pub IsVolumeFault : (Area → ℕ) → (Area → ℕ) → Fault → Type 0
-IsVolumeFault before after (Volume area) = Rises (before area) (after area)
-IsVolumeFault before after (Damaged area at) = ⊥
+-- of a read of the slot
+abbrev pub ExplainsSlot : {V : Type 0} → Ghosts V → V → V → ℕ → Fault → Type 0
+ExplainsSlot g old new slot (fault.Volume area) = (area ≡ Master) × Rises (g.faults old area) (g.faults new area)
+ExplainsSlot g old new slot (fault.Damaged area at) = (area ≡ Master) × (at ≡ slot_at slot) × (IsTrue g.models_content → HasNoFields (g.content old Master) at)
 
--- P of the place that is damaged, if that is the fault
-abbrev pub IfDamaged : Fault → (Area → ℕ → Type 0) → Type 0
-IfDamaged (Volume area) P = ⊤
-IfDamaged (Damaged area at) P = P area at
+-- of a read of the master
+abbrev pub ExplainsRead : {V : Type 0} → Ghosts V → V → V → MasterFault → Type 0
+ExplainsRead g old new read.NotMade = IsTrue g.models_content → IsUnmade (g.content old)
+ExplainsRead g old new (read.Fault (fault.Volume area)) = (area ≡ Master) × Rises (g.faults old area) (g.faults new area)
+ExplainsRead g old new (read.Fault (fault.Damaged area at)) = (area ≡ Master) × (IsTrue g.models_content → IsDamagedAt (g.content old Master) at)
 
--- P of the area that failed, if that is the fault
-abbrev pub IfVolume : Fault → (Area → Type 0) → Type 0
-IfVolume (Volume area) P = P area
-IfVolume (Damaged area at) P = ⊤
-
--- P of the fault, if that is the error
-abbrev pub IfReadFault : MasterFault → (Fault → Type 0) → Type 0
-IfReadFault NotMade P = ⊤
-IfReadFault (ReadFault fault) P = P fault
-
--- P, if the error is that the volume is not made
-abbrev pub OnNotMade : MasterFault → Type 0 → Type 0
-OnNotMade NotMade P = P
-OnNotMade (ReadFault fault) P = ⊤
-
--- P of the fault, if that is the error
-abbrev pub IfCreateFault : CreateFault → (Fault → Type 0) → Type 0
-IfCreateFault AlreadyMade P = ⊤
-IfCreateFault (WriteFault fault) P = P fault
-
--- P, if the error is that the volume is made already
-abbrev pub OnAlreadyMade : CreateFault → Type 0 → Type 0
-OnAlreadyMade AlreadyMade P = P
-OnAlreadyMade (WriteFault fault) P = ⊤
+-- of making a volume: one that is made already was only synced and read, and all of it was synced
+abbrev pub ExplainsCreate : {V : Type 0} → Ghosts V → V → V → CreateFault → Type 0
+ExplainsCreate g old new create.AlreadyMade = (IsTrue g.models_content → IsMade (g.content old)) × IsAllSynced g new × OnlyReads g Master old new
+ExplainsCreate g old new (create.Fault fault) = IsVolumeFault (g.faults old) (g.faults new) fault

@@ -22,7 +22,7 @@ pub record KeepCheckpointRules (f : Fields) : Type 0 where
   pub batch_within : f.batch ≤ MAX_LOG
   pub within : f.checkpoint ≤ MAX_LOG
   pub none : f.checkpoint ≡ 0 → f.batch ≡ 0
-  pub behind_batch : f.checkpoint ≢ 0 → f.batch + FIRST_RECORD ≤ f.checkpoint
+  pub after_batch : f.checkpoint ≢ 0 → f.batch + FIRST_RECORD ≤ f.checkpoint
 
 -- the rules of the copy's fields
 pub record KeepCopyRules (f : Fields) : Type 0 where
@@ -65,7 +65,7 @@ slot_bytes f =
     ++ to_be_bytes w64 f.start
     ++ to_be_bytes w32 f.copied
 
--- the fields of a new volume of so many pages
+-- the fields of a new volume of this many pages
 abbrev pub fresh_fields : ℕ → Fields
 fresh_fields pages = record {
   version = VERSION;

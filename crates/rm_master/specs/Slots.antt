@@ -1,11 +1,10 @@
 -- The master as it stands in its area.
 use Rattle.std.specs.Prelude.{◌≡◌, ◌≢◌, ℕ, ◌+◌, ◌*◌, ◌%◌, ◌⊎◌}
 use Rattle.rm_types.specs.declared.areas.Area.TheVariants.{Master}
-use Rattle.rm_outside.specs.Images.{Bytes, Image, Shows}
+use Rattle.rm_outside.specs.Images.{Bytes, Image, KeepsOthers, Shows}
 use Rattle.rm_master.specs.declared.fields.TheConstants.{MADE, MADE_AT, PARITY_AT, SLOTS_AT, SLOT_ROOM}
 use Rattle.rm_master.specs.declared.fields.Fields.{Fields}
 use Rattle.rm_master.specs.Fields.{IsFields, slot_bytes}
-use Rattle.rm_master.specs.Steps.{KeepsOthers}
 
 -- where the slot of this number begins
 abbrev pub slot_at : ℕ → ℕ
@@ -26,11 +25,19 @@ pub record HasFields (area : Bytes) (fields : Fields) : Type 0 where
   pub rules : IsFields fields
   pub slot : Shows area (slot_at (current area)) (slot_bytes fields)
 
+-- no fields stand at this place
+abbrev pub HasNoFields : Bytes → ℕ → Type 0
+HasNoFields area at = (fields : Fields) → IsFields fields → Shows area at (slot_bytes fields) → ⊥
+
 -- the volume is made, and its current slot, at this place, has no fields
 pub record IsDamagedAt (area : Bytes) (at : ℕ) : Type 0 where
   pub made : area MADE_AT ≡ MADE
   pub place : at ≡ slot_at (current area)
-  pub none : (fields : Fields) → IsFields fields → Shows area at (slot_bytes fields) → ⊥
+  pub none : HasNoFields area at
+
+-- the volume is made
+abbrev pub IsMade : Image → Type 0
+IsMade c = c Master MADE_AT ≡ MADE
 
 -- the volume is not made
 abbrev pub IsUnmade : Image → Type 0

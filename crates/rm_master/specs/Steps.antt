@@ -1,28 +1,19 @@
 -- What the calls of this crate do to an image.
-use Rattle.std.specs.Prelude.{◌≡◌, ◌≢◌}
-use Rattle.rm_types.specs.declared.areas.Area.{Area}
-use Rattle.rm_types.specs.declared.areas.Area.TheVariants.{Master}
-use Rattle.rm_outside.specs.Images.{Image}
-use Rattle.rm_outside.specs.Moments.{AddsNone}
+use Rattle.std.specs.Prelude.{◌≡◌, ℕ, ◌≤◌}
+use Rattle.rm_types.specs.declared.areas.Area.TheVariants.{Master, Log, Copy}
+use Rattle.rm_outside.specs.Images.{Image, KeepsOthers}
 
--- an image that comes by one step from one that might have been left
-abbrev pub After : (Image → Image → Type 0) → (Image → Type 0) → Image → Type 0
-After step old c = (d : Image) × old d × step d c
+-- area Copy stays, and of Log the bytes after the first gate's
+pub record KeepsCopyAndLog (old new : Image) : Type 0 where
+  pub copy : new Copy ≡ old Copy
+  pub log : (k : ℕ) → 1 ≤ k → new Log k ≡ old Log k
 
--- the other areas stay
-pub record KeepsOthers (area : Area) (old new : Image) : Type 0 where
-  pub each : (other : Area) → other ≢ area → new other ≡ old other
-
--- the master stays
+-- the master stays too
 pub record KeepsMaster (old new : Image) : Type 0 where
   pub master : new Master ≡ old Master
+  pub rest : KeepsCopyAndLog old new
 
 -- the other areas stay, and the made byte
 pub record KeepsMadeByte (old new : Image) : Type 0 where
-  pub others : (other : Area) → other ≢ Master → new other ≡ old other
+  pub others : KeepsOthers Master old new
   pub made : new Master 0 ≡ old Master 0
-
--- the content stays, and no image is added
-pub record IsUntouched (content new_content : Image) (old new : Image → Type 0) : Type 0 where
-  pub content_stays : new_content ≡ content
-  pub no_image : AddsNone old new

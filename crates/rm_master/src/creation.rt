@@ -1,23 +1,22 @@
 //! Making a volume.
 //!
-//! The made byte is the last thing written, behind a sync of all else: until then each image is one
+//! The made byte is the last thing written, after a sync of all else: until then each image is one
 //! of a volume that is not made, and from then on each is a volume without rows.
 
-ghost use Rattle.std.specs.Prelude.{◌≡◌, ℕ, ◌+◌, ◌*◌, ◌<◌, ◌≤◌, ◌⊎◌, IsTrue, length, get_or, OnOk, IfErr, [], ◌∷◌};
+ghost use Rattle.std.specs.Prelude.{◌≡◌, ℕ, ◌+◌, ◌*◌, ◌<◌, ◌≤◌, ◌⊎◌, IsTrue, length, get_or, OnOk, [], ◌∷◌};
 ghost use Rattle.rm_types.specs.declared.areas.Area.{Area};
+ghost use Rattle.rm_types.specs.Formats.{blocks_of};
 ghost use Rattle.rm_outside.specs.Areas.{last_block};
-ghost use Rattle.rm_outside.specs.Images.{Image, Torn};
-ghost use Rattle.rm_outside.specs.Moments.{Follows, LeavesOnly};
-ghost use Rattle.rm_master.specs.Faults.{IsVolumeFault};
-ghost use Rattle.rm_master.specs.Steps.{After, KeepsOthers, KeepsMaster, KeepsMadeByte};
+ghost use Rattle.rm_outside.specs.Images.{KeepsOthers, Torn};
+ghost use Rattle.rm_outside.specs.Calls.{AtEachMoment, Fails, FailsIn, IsAllSynced, Writes};
+ghost use Rattle.rm_master.specs.Steps.{KeepsCopyAndLog, KeepsMaster, KeepsMadeByte};
 ghost use Rattle.rm_master.specs.Fields.{fresh_fields};
-ghost use Rattle.rm_master.specs.Slots.{HasSlot, IsUnmade};
-ghost use Rattle.rm_master.specs.Fresh.{IsZeroBelow, IsCleared, IsFresh, space_blocks};
+ghost use Rattle.rm_master.specs.Slots.{HasSlot, IsMade, IsUnmade};
+ghost use Rattle.rm_master.specs.Fresh.{IsZeroBelow, IsCleared, IsFresh};
 
-use crate::calls::{sync, sync_content, write};
 use crate::fields::{Fields, MADE, MADE_AT, PARITY_AT, SLOTS_AT};
 use crate::spelling::spelling;
-use rm_outside::Volume;
+use rm_outside::{Volume, sync_area, sync_content, write_area};
 use rm_types::{Area, BLOCK_PAGES, BLOCK_SIZE, Fault, MAX_PAGES};
 
 /// A gate that is closed.
@@ -37,32 +36,21 @@ fn zero_block() -> [u8; BLOCK_SIZE]
 /// Writes zeros to one block.
 fn clear_block<V: Volume>(volume: &mut V, area: Area, block: u32) -> Result<(), Fault>
     requires { block ≤ last_block area }
-    ensures zeros { OnOk result (IsTrue V.tells → IsZeroBelow (V.content volume.old area) (BLOCK_SIZE * block) → IsZeroBelow (V.content volume.new area) (BLOCK_SIZE * (block + 1))) }
-    ensures content { KeepsOthers area (V.content volume.old) (V.content volume.new) }
-    ensures crash { Follows (KeepsOthers area) (V.may_leave volume.old) (V.may_leave volume.new) }
-    ensures any_moment { LeavesOnly (V.moment volume.old) (V.moment volume.new) (V.left_since volume.old) (V.left_since volume.new) (After (KeepsOthers area) (V.may_leave volume.old)) }
-    ensures counts { (other : Area) → V.faults volume.old other ≤ V.faults volume.new other }
-    ensures cause { IfErr result (IsVolumeFault (V.faults volume.old) (V.faults volume.new)) }
-    ensures blocks { V.data_reads volume.new ≡ V.data_reads volume.old }
-    ensures log_bytes { V.log_reads volume.new ≡ V.log_reads volume.old }
-    ensures same { V.reference volume.new ≡ V.reference volume.old }
+    ensures zeros { OnOk result (IsTrue V.models_content → IsZeroBelow (V.content volume.old area) (BLOCK_SIZE * block)
+        → IsZeroBelow (V.content volume.new area) (BLOCK_SIZE * (block + 1))) }
+    ensures writes { Writes V.Volume (KeepsOthers area) volume.old volume.new }
+    ensures cause { FailsIn V.Volume area volume.old volume.new result }
 {
     let zeros = zero_block();
-    write(volume, area, BLOCK_SIZE as u64 * block as u64, &zeros)
+    write_area(volume, area, BLOCK_SIZE as u64 * block as u64, &zeros)
 }
 
-/// Writes zeros to so many blocks.
+/// Writes zeros to this many blocks.
 fn clear_blocks<V: Volume>(volume: &mut V, area: Area, count: u32) -> Result<(), Fault>
     requires { count ≤ last_block area + 1 }
-    ensures zeros { OnOk result (IsTrue V.tells → IsZeroBelow (V.content volume.new area) (BLOCK_SIZE * count)) }
-    ensures content { KeepsOthers area (V.content volume.old) (V.content volume.new) }
-    ensures crash { Follows (KeepsOthers area) (V.may_leave volume.old) (V.may_leave volume.new) }
-    ensures any_moment { LeavesOnly (V.moment volume.old) (V.moment volume.new) (V.left_since volume.old) (V.left_since volume.new) (After (KeepsOthers area) (V.may_leave volume.old)) }
-    ensures counts { (other : Area) → V.faults volume.old other ≤ V.faults volume.new other }
-    ensures cause { IfErr result (IsVolumeFault (V.faults volume.old) (V.faults volume.new)) }
-    ensures blocks { V.data_reads volume.new ≡ V.data_reads volume.old }
-    ensures log_bytes { V.log_reads volume.new ≡ V.log_reads volume.old }
-    ensures same { V.reference volume.new ≡ V.reference volume.old }
+    ensures zeros { OnOk result (IsTrue V.models_content → IsZeroBelow (V.content volume.new area) (BLOCK_SIZE * count)) }
+    ensures writes { Writes V.Volume (KeepsOthers area) volume.old volume.new }
+    ensures cause { FailsIn V.Volume area volume.old volume.new result }
 {
     for block in 0..count {
         clear_block(volume, area, block)?;
@@ -70,10 +58,10 @@ fn clear_blocks<V: Volume>(volume: &mut V, area: Area, count: u32) -> Result<(),
     Ok(())
 }
 
-/// How many blocks of Space so many pages have.
+/// How many blocks of Space describe this many pages.
 fn space_block_count(pages: u32) -> u32
     requires { pages ≤ MAX_PAGES }
-    ensures { result ≡ space_blocks pages }
+    ensures { result ≡ blocks_of pages }
 {
     (pages + BLOCK_PAGES - 1) / BLOCK_PAGES
 }
@@ -81,31 +69,23 @@ fn space_block_count(pages: u32) -> u32
 /// Writes a closed gate and the blocks of zeros.
 fn write_clear<V: Volume>(volume: &mut V, pages: u32) -> Result<(), Fault>
     requires { pages ≤ MAX_PAGES }
-    ensures cleared { OnOk result (IsTrue V.tells → IsCleared pages (V.content volume.new)) }
-    ensures crash { Follows KeepsMaster (V.may_leave volume.old) (V.may_leave volume.new) }
-    ensures any_moment { LeavesOnly (V.moment volume.old) (V.moment volume.new) (V.left_since volume.old) (V.left_since volume.new) (After KeepsMaster (V.may_leave volume.old)) }
-    ensures counts { (other : Area) → V.faults volume.old other ≤ V.faults volume.new other }
-    ensures cause { IfErr result (IsVolumeFault (V.faults volume.old) (V.faults volume.new)) }
-    ensures blocks { V.data_reads volume.new ≡ V.data_reads volume.old }
-    ensures log_bytes { V.log_reads volume.new ≡ V.log_reads volume.old }
-    ensures same { V.reference volume.new ≡ V.reference volume.old }
+    ensures cleared { OnOk result (IsTrue V.models_content → IsCleared pages (V.content volume.new)) }
+    ensures writes { Writes V.Volume KeepsMaster volume.old volume.new }
+    ensures cause { Fails V.Volume volume.old volume.new result }
 {
-    write(volume, Area::Log, 0, &[CLOSED])?;
+    write_area(volume, Area::Log, 0, &[CLOSED])?;
     clear_blocks(volume, Area::Data, pages)?;
     clear_blocks(volume, Area::Space, space_block_count(pages))
 }
 
 /// Makes the log empty and the blocks zeros, durably.
 fn clear<V: Volume>(volume: &mut V, pages: u32) -> Result<(), Fault>
-    requires { pages ≤ MAX_PAGES }
-    ensures cleared { OnOk result ((c : Image) → V.may_leave volume.new c → IsCleared pages c) }
-    ensures crash { Follows KeepsMaster (V.may_leave volume.old) (V.may_leave volume.new) }
-    ensures any_moment { LeavesOnly (V.moment volume.old) (V.moment volume.new) (V.left_since volume.old) (V.left_since volume.new) (After KeepsMaster (V.may_leave volume.old)) }
-    ensures counts { (other : Area) → V.faults volume.old other ≤ V.faults volume.new other }
-    ensures cause { IfErr result (IsVolumeFault (V.faults volume.old) (V.faults volume.new)) }
-    ensures blocks { V.data_reads volume.new ≡ V.data_reads volume.old }
-    ensures log_bytes { V.log_reads volume.new ≡ V.log_reads volume.old }
-    ensures same { V.reference volume.new ≡ V.reference volume.old }
+    requires pages { pages ≤ MAX_PAGES }
+    requires synced { IsAllSynced V.Volume volume.old }
+    ensures cleared { OnOk result (IsTrue V.models_content → IsCleared pages (V.content volume.new)) }
+    ensures synced { OnOk result (IsAllSynced V.Volume volume.new) }
+    ensures writes { Writes V.Volume KeepsMaster volume.old volume.new }
+    ensures cause { Fails V.Volume volume.old volume.new result }
 {
     write_clear(volume, pages)?;
     sync_content(volume)
@@ -113,52 +93,41 @@ fn clear<V: Volume>(volume: &mut V, pages: u32) -> Result<(), Fault>
 
 /// Writes the first slot and the parity byte that names it, and makes both durable.
 fn write_first_slot<V: Volume>(volume: &mut V, pages: u32) -> Result<(), Fault>
-    requires { (1 ≤ pages) × (pages ≤ MAX_PAGES) }
-    ensures slot { OnOk result ((c : Image) → V.may_leave volume.new c → HasSlot (c Area.Master) (fresh_fields pages)) }
-    ensures crash { Follows KeepsMadeByte (V.may_leave volume.old) (V.may_leave volume.new) }
-    ensures any_moment { LeavesOnly (V.moment volume.old) (V.moment volume.new) (V.left_since volume.old) (V.left_since volume.new) (After KeepsMadeByte (V.may_leave volume.old)) }
-    ensures counts { (other : Area) → V.faults volume.old other ≤ V.faults volume.new other }
-    ensures cause { IfErr result (IsVolumeFault (V.faults volume.old) (V.faults volume.new)) }
-    ensures blocks { V.data_reads volume.new ≡ V.data_reads volume.old }
-    ensures log_bytes { V.log_reads volume.new ≡ V.log_reads volume.old }
-    ensures same { V.reference volume.new ≡ V.reference volume.old }
+    requires pages { (1 ≤ pages) × (pages ≤ MAX_PAGES) }
+    requires synced { IsAllSynced V.Volume volume.old }
+    ensures slot { OnOk result (IsTrue V.models_content → HasSlot (V.content volume.new Area.Master) (fresh_fields pages)) }
+    ensures synced { OnOk result (IsAllSynced V.Volume volume.new) }
+    ensures writes { Writes V.Volume KeepsMadeByte volume.old volume.new }
+    ensures cause { FailsIn V.Volume Area.Master volume.old volume.new result }
 {
-    write(
-        volume,
-        Area::Master,
-        SLOTS_AT,
-        &spelling(&Fields::fresh(pages)),
-    )?;
-    write(volume, Area::Master, PARITY_AT, &[FIRST_SLOT])?;
-    sync(volume, Area::Master)
+    let slot = spelling(&Fields::fresh(pages));
+    write_area(volume, Area::Master, SLOTS_AT, &slot)?;
+    write_area(volume, Area::Master, PARITY_AT, &[FIRST_SLOT])?;
+    sync_area(volume, Area::Master)
 }
 
 /// Writes the made byte, and makes it durable.
 fn write_made<V: Volume>(volume: &mut V) -> Result<(), Fault>
-    ensures made { OnOk result ((c : Image) → V.may_leave volume.new c → c Area.Master MADE_AT ≡ MADE) }
-    ensures crash { Follows (Torn Area.Master MADE_AT (MADE ∷ [])) (V.may_leave volume.old) (V.may_leave volume.new) }
-    ensures any_moment { LeavesOnly (V.moment volume.old) (V.moment volume.new) (V.left_since volume.old) (V.left_since volume.new) (After (Torn Area.Master MADE_AT (MADE ∷ [])) (V.may_leave volume.old)) }
-    ensures counts { (other : Area) → V.faults volume.old other ≤ V.faults volume.new other }
-    ensures cause { IfErr result (IsVolumeFault (V.faults volume.old) (V.faults volume.new)) }
-    ensures blocks { V.data_reads volume.new ≡ V.data_reads volume.old }
-    ensures log_bytes { V.log_reads volume.new ≡ V.log_reads volume.old }
-    ensures same { V.reference volume.new ≡ V.reference volume.old }
+    requires { IsAllSynced V.Volume volume.old }
+    ensures made { OnOk result (IsTrue V.models_content → IsMade (V.content volume.new)) }
+    ensures synced { OnOk result (IsAllSynced V.Volume volume.new) }
+    ensures writes { Writes V.Volume (Torn Area.Master MADE_AT (MADE ∷ [])) volume.old volume.new }
+    ensures cause { FailsIn V.Volume Area.Master volume.old volume.new result }
 {
-    write(volume, Area::Master, MADE_AT, &[MADE])?;
-    sync(volume, Area::Master)
+    write_area(volume, Area::Master, MADE_AT, &[MADE])?;
+    sync_area(volume, Area::Master)
 }
 
-/// Makes a volume that is not made.
+/// Makes a volume that is not made, and of which all is synced.
 pub fn make<V: Volume>(volume: &mut V, pages: u32) -> Result<(), Fault>
     requires pages { (1 ≤ pages) × (pages ≤ MAX_PAGES) }
-    requires unmade { (c : Image) → V.may_leave volume.old c → IsUnmade c }
-    ensures fresh { OnOk result ((c : Image) → V.may_leave volume.new c → IsFresh pages c) }
-    ensures any_moment { LeavesOnly (V.moment volume.old) (V.moment volume.new) (V.left_since volume.old) (V.left_since volume.new) (λ c. IsUnmade c ⊎ IsFresh pages c) }
-    ensures counts { (other : Area) → V.faults volume.old other ≤ V.faults volume.new other }
-    ensures cause { IfErr result (IsVolumeFault (V.faults volume.old) (V.faults volume.new)) }
-    ensures blocks { V.data_reads volume.new ≡ V.data_reads volume.old }
-    ensures log_bytes { V.log_reads volume.new ≡ V.log_reads volume.old }
-    ensures same { V.reference volume.new ≡ V.reference volume.old }
+    requires synced { IsAllSynced V.Volume volume.old }
+    requires unmade { IsTrue V.models_content → IsUnmade (V.content volume.old) }
+    ensures fresh { OnOk result (IsTrue V.models_content → IsFresh pages (V.content volume.new)) }
+    ensures synced { OnOk result (IsAllSynced V.Volume volume.new) }
+    ensures any_moment { AtEachMoment V.Volume volume.old volume.new (λ c. IsUnmade c ⊎ IsFresh pages c) }
+    ensures writes { Writes V.Volume KeepsCopyAndLog volume.old volume.new }
+    ensures cause { Fails V.Volume volume.old volume.new result }
 {
     clear(volume, pages)?;
     write_first_slot(volume, pages)?;

@@ -8,7 +8,7 @@ use rm_types::{MAX_LOG, MAX_PAGES};
 /// The version of the format.
 pub const VERSION: u16 = 1;
 
-/// How far behind a batch's first byte its first record stands.
+/// How far after a batch's first byte its first record stands.
 pub const FIRST_RECORD: u64 = 5;
 
 /// The greatest number of a half.
@@ -26,7 +26,7 @@ pub const PARITY_AT: u64 = 1;
 /// Where the first slot stands.
 pub const SLOTS_AT: u64 = 64;
 
-/// How far the second slot is behind the first.
+/// How far after the first slot the second one is.
 pub const SLOT_ROOM: u64 = 64;
 
 /// The bytes of a slot.
@@ -54,7 +54,7 @@ pub struct Fields {
 }
 
 impl Fields {
-    /// The fields of a new volume of so many pages.
+    /// The fields of a new volume of this many pages.
     pub fn fresh(pages: u32) -> Fields
         ensures { result ≡ fresh_fields pages }
     {

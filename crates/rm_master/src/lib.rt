@@ -6,7 +6,6 @@
 //! where its made byte is 1; [`Master::create`] writes that byte last.
 #![tactic(auto)]
 
-mod calls;
 mod creation;
 mod faults;
 mod fields;
@@ -15,11 +14,7 @@ mod master;
 mod slots;
 mod spelling;
 
-pub use calls::sync_areas;
 pub use faults::{CreateFault, MasterFault};
 pub use fields::Fields;
 pub use laws::an_area_has_one_reading;
 pub use master::Master;
-
-#[cfg(test)]
-mod tests;

@@ -2,13 +2,12 @@
 
 ghost use Rattle.std.specs.Prelude.{◌<◌};
 
-use crate::calls;
 use crate::creation::make;
 use crate::faults::{CreateFault, MasterFault};
 use crate::fields::{Fields, MADE, MADE_AT};
 use crate::slots::{read_slot, write_parity, write_slot};
-use rm_outside::Volume;
-use rm_types::{Fault, MAX_PAGES};
+use rm_outside::{Volume, read_area, sync_areas};
+use rm_types::{Area, Fault, MAX_PAGES};
 
 /// The master of a volume that is made.
 #[derive(Debug, Drop)]
@@ -21,16 +20,14 @@ pub struct Master {
 }
 
 impl Master {
-    ghost use Rattle.std.specs.Prelude.{◌≡◌, ◌≢◌, ◌≤◌, ◌⊎◌, IsTrue, IfOk, IfErr, OnOk, OnErr};
-    ghost use Rattle.rm_types.specs.declared.areas.Area.{Area};
+    ghost use Rattle.std.specs.Prelude.{◌≡◌, ◌≤◌, ◌⊎◌, IsTrue, IfOk, IfErr, OnOk, OnErr};
     ghost use Rattle.rm_types.specs.declared.areas.Area.TheVariants.{Master as master_area};
-    ghost use Rattle.rm_outside.specs.Faults.{Rises};
     ghost use Rattle.rm_outside.specs.Images.{Image};
-    ghost use Rattle.rm_outside.specs.Moments.{AddsNone, Follows, IsDurable, LeavesOnly};
-    ghost use Rattle.rm_master.specs.Faults.{IfVolume, IfDamaged, IfReadFault, OnNotMade, IfCreateFault, OnAlreadyMade, IsVolumeFault};
+    ghost use Rattle.rm_outside.specs.Calls.{AtEachMoment, FailsIn, IsAllSynced, IsSynced, OnlyReads, Writes, WritesIn};
+    ghost use Rattle.rm_master.specs.Faults.{ExplainsRead, ExplainsCreate};
     ghost use Rattle.rm_master.specs.Fields.{IsFields};
-    ghost use Rattle.rm_master.specs.Slots.{Stands, GoesTo, IsDamagedAt, IsUnmade};
-    ghost use Rattle.rm_master.specs.Steps.{After, KeepsOthers, IsUntouched};
+    ghost use Rattle.rm_master.specs.Slots.{Stands, GoesTo, IsMade, IsUnmade};
+    ghost use Rattle.rm_master.specs.Steps.{KeepsCopyAndLog};
     ghost use Rattle.rm_master.specs.Fresh.{IsFresh};
 
     /// Reads the master.
@@ -42,20 +39,12 @@ impl Master {
     /// [`rm_types::Fault::Volume`] where the area Master failed.
     pub fn read<V: Volume>(volume: &mut V) -> Result<Master, MasterFault>
         ensures fields { IfOk result (λ master. IsFields master.fields) }
-        ensures stands { IfOk result (λ master. IsTrue V.tells → Stands master.slot master.fields (V.content volume.old master_area)) }
-        ensures not_made { IfErr result (λ error. OnNotMade error (IsTrue V.tells → V.content volume.old master_area MADE_AT ≢ MADE)) }
-        ensures damaged { IfErr result (λ error. IfReadFault error (λ fault. IfDamaged fault (λ area at. (area ≡ master_area) × (IsTrue V.tells → IsDamagedAt (V.content volume.old master_area) at)))) }
-        ensures cause { IfErr result (λ error. IfReadFault error (λ fault. IfVolume fault (λ area. (area ≡ master_area) × Rises (V.faults volume.old area) (V.faults volume.new area)))) }
-        ensures content { V.content volume.new ≡ V.content volume.old }
-        ensures crash { AddsNone (V.may_leave volume.old) (V.may_leave volume.new) }
-        ensures any_moment { LeavesOnly (V.moment volume.old) (V.moment volume.new) (V.left_since volume.old) (V.left_since volume.new) (V.may_leave volume.old) }
-        ensures counts { (other : Area) → V.faults volume.old other ≤ V.faults volume.new other }
-        ensures blocks { V.data_reads volume.new ≡ V.data_reads volume.old }
-        ensures log_bytes { V.log_reads volume.new ≡ V.log_reads volume.old }
-        ensures same { V.reference volume.new ≡ V.reference volume.old }
+        ensures stands { IfOk result (λ master. IsTrue V.models_content → Stands master.slot master.fields (V.content volume.old master_area)) }
+        ensures reads { OnlyReads V.Volume master_area volume.old volume.new }
+        ensures cause { IfErr result (ExplainsRead V.Volume volume.old volume.new) }
     {
         let mut head = [0u8; 2];
-        calls::read_master(volume, MADE_AT, &mut head)?;
+        read_area(volume, Area::Master, MADE_AT, &mut head)?;
         let [made, parity] = head;
         if made != MADE {
             return Err(MasterFault::NotMade);
@@ -65,32 +54,27 @@ impl Master {
         Ok(Master { fields, slot })
     }
 
-    /// Makes a volume of so many pages, all of them empty, and an empty log. After an error other than
+    /// Makes a volume of this many pages, all of them empty, and an empty log. It leaves area Copy, and the
+    /// bytes of Log after the first gate's, as they are. After an error other than
     /// [`CreateFault::AlreadyMade`] the volume may be made or not.
     ///
     /// # Errors
     ///
-    /// [`CreateFault::AlreadyMade`] exactly where the made byte is 1; then nothing was written.
-    /// [`rm_types::Fault::Volume`] names the area that failed.
+    /// [`CreateFault::AlreadyMade`] exactly where the made byte is 1; then all areas were synced, and nothing
+    /// was written. [`rm_types::Fault::Volume`] with the area that failed.
     pub fn create<V: Volume>(volume: &mut V, pages: u32) -> Result<(), CreateFault>
         requires { (1 ≤ pages) × (pages ≤ MAX_PAGES) }
         ensures fresh { OnOk result ((c : Image) → V.may_leave volume.new c → IsFresh pages c) }
-        ensures not_made { OnOk result (IsTrue V.tells → V.content volume.old master_area MADE_AT ≢ MADE) }
-        ensures any_moment { LeavesOnly (V.moment volume.old) (V.moment volume.new) (V.left_since volume.old) (V.left_since volume.new) (λ c. V.may_leave volume.old c ⊎ (IsUnmade c ⊎ IsFresh pages c)) }
-        ensures made { IsTrue V.tells → V.content volume.old master_area MADE_AT ≡ MADE → IsUntouched (V.content volume.old) (V.content volume.new) (V.may_leave volume.old) (V.may_leave volume.new) }
-        ensures made_any_moment { IsTrue V.tells → V.content volume.old master_area MADE_AT ≡ MADE → LeavesOnly (V.moment volume.old) (V.moment volume.new) (V.left_since volume.old) (V.left_since volume.new) (V.may_leave volume.old) }
-        ensures already { IfErr result (λ error. OnAlreadyMade error (IsTrue V.tells → V.content volume.old master_area MADE_AT ≡ MADE)) }
-        ensures already_untouched { IfErr result (λ error. OnAlreadyMade error (IsUntouched (V.content volume.old) (V.content volume.new) (V.may_leave volume.old) (V.may_leave volume.new))) }
-        ensures already_any_moment { IfErr result (λ error. OnAlreadyMade error (LeavesOnly (V.moment volume.old) (V.moment volume.new) (V.left_since volume.old) (V.left_since volume.new) (V.may_leave volume.old))) }
-        ensures cause { IfErr result (λ error. IfCreateFault error (IsVolumeFault (V.faults volume.old) (V.faults volume.new))) }
-        ensures counts { (other : Area) → V.faults volume.old other ≤ V.faults volume.new other }
-        ensures blocks { V.data_reads volume.new ≡ V.data_reads volume.old }
-        ensures log_bytes { V.log_reads volume.new ≡ V.log_reads volume.old }
-        ensures same { V.reference volume.new ≡ V.reference volume.old }
+        ensures not_made { OnOk result (IsTrue V.models_content → IsUnmade (V.content volume.old)) }
+        ensures synced { OnOk result (IsAllSynced V.Volume volume.new) }
+        ensures made { IsTrue V.models_content → IsMade (V.content volume.old) → OnlyReads V.Volume master_area volume.old volume.new }
+        ensures any_moment { AtEachMoment V.Volume volume.old volume.new (λ c. V.may_leave volume.old c ⊎ (IsUnmade c ⊎ IsFresh pages c)) }
+        ensures writes { Writes V.Volume KeepsCopyAndLog volume.old volume.new }
+        ensures cause { IfErr result (ExplainsCreate V.Volume volume.old volume.new) }
     {
-        calls::sync_areas(volume)?;
+        sync_areas(volume)?;
         let mut made = [0u8; 1];
-        calls::read_master(volume, MADE_AT, &mut made)?;
+        read_area(volume, Area::Master, MADE_AT, &mut made)?;
         if made[0] == MADE {
             return Err(CreateFault::AlreadyMade);
         }
@@ -108,16 +92,10 @@ impl Master {
         requires stands { (c : Image) → V.may_leave volume.old c → Stands self.old.slot self.old.fields (c master_area) }
         ensures written { OnOk result (self.new.fields ≡ next.now) }
         ensures stands { OnOk result ((c : Image) → V.may_leave volume.new c → Stands self.new.slot next.now (c master_area)) }
-        ensures durable { OnOk result (IsDurable master_area (V.content volume.new) (V.may_leave volume.new)) }
+        ensures synced { OnOk result (IsSynced V.Volume master_area volume.new) }
         ensures unchanged { OnErr result ((self.new.fields ≡ self.old.fields) × (self.new.slot ≡ self.old.slot)) }
-        ensures content { KeepsOthers master_area (V.content volume.old) (V.content volume.new) }
-        ensures crash { Follows (GoesTo self.old.fields next.now) (V.may_leave volume.old) (V.may_leave volume.new) }
-        ensures any_moment { LeavesOnly (V.moment volume.old) (V.moment volume.new) (V.left_since volume.old) (V.left_since volume.new) (After (GoesTo self.old.fields next.now) (V.may_leave volume.old)) }
-        ensures cause { IfErr result (IsVolumeFault (V.faults volume.old) (V.faults volume.new)) }
-        ensures counts { (other : Area) → V.faults volume.old other ≤ V.faults volume.new other }
-        ensures blocks { V.data_reads volume.new ≡ V.data_reads volume.old }
-        ensures log_bytes { V.log_reads volume.new ≡ V.log_reads volume.old }
-        ensures same { V.reference volume.new ≡ V.reference volume.old }
+        ensures writes { WritesIn V.Volume master_area (GoesTo self.old.fields next.now) volume.old volume.new }
+        ensures cause { FailsIn V.Volume master_area volume.old volume.new result }
     {
         let other = 1 - self.slot;
         write_slot(volume, other, next)?;

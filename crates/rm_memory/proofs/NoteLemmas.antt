@@ -6,7 +6,7 @@ use Rattle.rm_types.specs.declared.areas.Area.{Area}
 use Rattle.rm_memory.specs.declared.notes.Put.{Put}
 use Rattle.rm_memory.specs.declared.notes.Note.{Note}
 use Rattle.rm_memory.specs.declared.notes.Note.TheVariants.{Wrote, Synced}
-use Rattle.rm_memory.specs.Puts.{is_same}
+use Rattle.rm_outside.specs.Areas.{is_same}
 use Rattle.rm_outside.specs.Images.{Image}
 use Rattle.rm_memory.specs.History.{Event, Write, Sync, content}
 use Rattle.rm_memory.specs.Notes.{events_onto, history, total, synced_in}
@@ -112,7 +112,7 @@ pub fresh_content : (base : Image) (notes : List Note) (bytes : List ℕ) → no
 unfolding content
 fresh_content base notes bytes fresh = ap (λ (es : List Event). content base es) (fresh_history notes bytes fresh)
 
--- a sync that is noted, or is not for want of memory
+-- a sync that is noted, or is not where memory runs out
 pub pushed_total : (pushed : Bool) (notes after : List Note) (area : Area) → after ≡ (if pushed then notes ++ Synced area ∷ [] else notes) → total after ≡ total notes
 pushed_total true notes after area is = ap (λ (ns : List Note). total ns) is ∙ total_synced notes area
 pushed_total false notes after area is = ap (λ (ns : List Note). total ns) is

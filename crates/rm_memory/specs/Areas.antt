@@ -1,19 +1,10 @@
--- One value for each area.
+-- The image that the bytes of five areas show.
 use Rattle.std.specs.Prelude.{ℕ, Vec, slice_index}
 use Rattle.std.specs.declared.alloc.Global.{Global}
-use Rattle.rm_types.specs.declared.areas.Area.{Area}
-use Rattle.rm_types.specs.declared.areas.Area.TheVariants.{Master, Log, Data, Space, Copy}
+use Rattle.rm_outside.specs.declared.areas.PerArea.{PerArea}
+use Rattle.rm_outside.specs.PerArea.{of_area}
 use Rattle.rm_outside.specs.Images.{Image}
-use Rattle.rm_memory.specs.declared.areas.PerArea.{PerArea}
 
--- the value of that area
-abbrev pub of_area : {T : Type 0} → PerArea T → Area → T
-of_area all Master = all.master
-of_area all Log = all.log
-of_area all Data = all.data
-of_area all Space = all.space
-of_area all Copy = all.copy
-
--- the image that these bytes show: past an area's last byte there are zeros
+-- past an area's last byte there are zeros
 abbrev pub image_of : PerArea (Vec ℕ Global) → Image
 image_of all = λ area k. slice_index (of_area all area).items k

@@ -4,7 +4,8 @@ use Rattle.rm_types.specs.declared.areas.Area.{Area}
 use Rattle.rm_outside.specs.Areas.{is_blocked}
 use Rattle.rm_outside.specs.Images.{Image}
 use Rattle.rm_memory.specs.declared.crash.TheConstants.{FILLING, CHOICES}
-use Rattle.rm_memory.specs.Puts.{is_same, put}
+use Rattle.rm_outside.specs.Areas.{is_same}
+use Rattle.rm_memory.specs.Puts.{put}
 use Rattle.rm_memory.specs.History.{Event, Write, Sync}
 
 -- no area

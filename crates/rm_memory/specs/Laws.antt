@@ -27,5 +27,5 @@ content_may_stay base [] = refl
 content_may_stay base (Write area at bytes took ∷ rest) = (content base rest, content_may_stay base rest, torn_by base area at bytes took rest)
 content_may_stay base (Sync area ∷ rest) = (content_may_stay base rest, refl)
 
-pub told : IsTrue true
-told = refl
+pub models : IsTrue true
+models = refl

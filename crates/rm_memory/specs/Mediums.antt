@@ -3,7 +3,8 @@ use Rattle.std.specs.Prelude.{ℕ, ◌+◌, ◌<◌, ◌≤◌, List, vec_len, v
 use Rattle.rm_types.specs.declared.areas.Area.{Area}
 use Rattle.rm_outside.specs.Images.{Image}
 use Rattle.rm_memory.specs.declared.medium.Medium.{Medium}
-use Rattle.rm_memory.specs.Areas.{of_area, image_of}
+use Rattle.rm_outside.specs.PerArea.{of_area}
+use Rattle.rm_memory.specs.Areas.{image_of}
 use Rattle.rm_memory.specs.History.{Event, content}
 use Rattle.rm_memory.specs.Notes.{history}
 
@@ -19,7 +20,7 @@ base_image medium = image_of medium.base
 abbrev pub shown : Medium → Image
 shown medium = content (base_image medium) (events medium)
 
--- A write of so many bytes at that offset wants no memory; nor does a sync.
+-- A write of `len` bytes at that offset takes no memory; nor does a sync.
 pub record HasRoom (medium : Medium) (area : Area) (at len : ℕ) : Type 0 where
   pub notes : vec_len medium.notes < vec_capacity medium.notes
   pub bytes : vec_len medium.bytes + len ≤ vec_capacity medium.bytes

@@ -6,7 +6,8 @@ use Rattle.rm_types.specs.declared.areas.Area.{Area}
 use Rattle.rm_types.specs.declared.areas.Area.TheVariants.{Master, Log, Data, Space, Copy}
 use Rattle.rm_outside.specs.Areas.{is_blocked}
 use Rattle.rm_outside.specs.Images.{Bytes, Image, Torn, Shows}
-use Rattle.rm_memory.specs.Puts.{is_same, put_bytes, put}
+use Rattle.rm_outside.specs.Areas.{is_same}
+use Rattle.rm_memory.specs.Puts.{put_bytes, put}
 
 pub same-refl : (a : Area) → is_same a a ≡ true
 same-refl Master = refl

@@ -1,17 +1,8 @@
 -- What a write puts into an image.
-use Rattle.std.specs.Prelude.{ℕ, ◌+◌, ◌-◌, Bool, true, false, List, length, slice_index, if◌then◌else◌, nat_lt}
+use Rattle.std.specs.Prelude.{ℕ, ◌+◌, ◌-◌, List, length, slice_index, if◌then◌else◌, nat_lt}
 use Rattle.rm_types.specs.declared.areas.Area.{Area}
-use Rattle.rm_types.specs.declared.areas.Area.TheVariants.{Master, Log, Data, Space, Copy}
+use Rattle.rm_outside.specs.Areas.{is_same}
 use Rattle.rm_outside.specs.Images.{Bytes, Image}
-
--- whether the two are one area
-abbrev pub is_same : Area → Area → Bool
-is_same Master Master = true
-is_same Log Log = true
-is_same Data Data = true
-is_same Space Space = true
-is_same Copy Copy = true
-is_same area other = false
 
 -- an area's bytes with these put at that offset
 abbrev pub put_bytes : Bytes → ℕ → List ℕ → Bytes

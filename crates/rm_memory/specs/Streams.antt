@@ -20,6 +20,6 @@ taken_by sink = sink.bytes.items
 abbrev pub sink_lists : MemSink → ℕ → Bool
 sink_lists sink = lists sink.fails.items
 
--- a write of so many bytes wants no memory
+-- a write of `len` bytes takes no memory
 abbrev pub HasRoomIn : MemSink → ℕ → Type 0
 HasRoomIn sink len = vec_len sink.bytes + len ≤ vec_capacity sink.bytes

@@ -4,8 +4,8 @@ use Rattle.rm_types.specs.declared.areas.Area.{Area}
 use Rattle.rm_outside.specs.Images.{Image}
 use Rattle.rm_outside.specs.Counts.{raised}
 use Rattle.rm_memory.specs.declared.volume.MemVolume.{MemVolume}
-use Rattle.rm_memory.specs.Puts.{is_same}
-use Rattle.rm_memory.specs.Areas.{of_area}
+use Rattle.rm_outside.specs.Areas.{is_same}
+use Rattle.rm_outside.specs.PerArea.{of_area}
 use Rattle.rm_memory.specs.History.{Event, content, may_leave}
 use Rattle.rm_memory.specs.Crashes.{none, left}
 use Rattle.rm_memory.specs.Mediums.{events, base_image, HasRoom, HasRoomForSync}
@@ -59,15 +59,15 @@ is_due volume = has_stopped volume || is_listed volume 1
 abbrev pub is_due_write : MemVolume → Bool
 is_due_write volume = is_due volume || (stops_in volume == 1)
 
--- a write of so many bytes at that offset wants no memory
+-- a write of `len` bytes at that offset takes no memory
 abbrev pub HasRoomFor : MemVolume → Area → ℕ → ℕ → Type 0
 HasRoomFor volume = HasRoom volume.medium
 
--- a sync wants no memory
+-- a sync takes no memory
 abbrev pub HasRoomToSync : MemVolume → Type 0
 HasRoomToSync volume = HasRoomForSync volume.medium
 
--- one call more to be listed wants no memory
+-- listing one call more takes no memory
 abbrev pub HasRoomToList : MemVolume → Type 0
 HasRoomToList volume = vec_len volume.plan.fails < vec_capacity volume.plan.fails
 

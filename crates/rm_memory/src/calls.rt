@@ -12,7 +12,7 @@ fn count_down(calls: &mut [u64])
     }
 }
 
-/// Counts a call, and answers whether it is listed.
+/// Counts a call, and returns whether it is listed.
 pub fn count_call(calls: &mut Vec<u64>) -> bool
     ensures due { result ≡ lists calls.old.items 1 }
     ensures nears { (n : ℕ) → 1 ≤ n → lists calls.new.items n ≡ lists calls.old.items (n + 1) }

@@ -4,9 +4,10 @@ ghost use Rattle.std.specs.Prelude.{◌≡◌, ℕ, ◌+◌, ◌<◌, ◌≤◌,
 ghost use Rattle.rm_types.specs.declared.areas.Area.{Area};
 ghost use Rattle.rm_outside.specs.Images.{Shows};
 ghost use Rattle.rm_memory.specs.Puts.{put_bytes, put};
-ghost use Rattle.rm_memory.specs.Areas.{of_area, image_of};
+ghost use Rattle.rm_outside.specs.PerArea.{of_area};
+ghost use Rattle.rm_memory.specs.Areas.{image_of};
 
-use crate::areas::PerArea;
+use rm_outside::PerArea;
 use rm_types::{Area, NoMemory};
 use std::alloc::Global;
 
@@ -41,7 +42,7 @@ fn put_at(area: &mut Vec<u8>, at: usize, bytes: &[u8])
     area[at..at + bytes.len()].copy_from_slice(bytes);
 }
 
-// Lengthens that area so that so many bytes have room.
+// Lengthens that area, to `end` bytes at least.
 pub fn make_room(areas: &mut PerArea<Vec<u8>>, area: Area, end: usize) -> Result<(), NoMemory>
     ensures same { image_of areas.new ≡ image_of areas.old }
     ensures long { OnOk result (end ≤ vec_len (of_area areas.new area)) }
@@ -70,7 +71,7 @@ pub fn put_bytes(areas: &mut PerArea<Vec<u8>>, area: Area, at: usize, bytes: &[u
     }
 }
 
-// Puts the bytes, and makes the room that they want.
+// Puts the bytes, and makes room for them.
 pub fn write_bytes(
     areas: &mut PerArea<Vec<u8>>,
     area: Area,

@@ -15,7 +15,7 @@ pub fn count_block(area: Area, reads: u64) -> u64
     }
 }
 
-/// The count of bytes of Log after a read of so many bytes of that area.
+/// The count of bytes of Log after a read of `len` bytes of that area.
 pub fn count_bytes(area: Area, len: usize, reads: u64) -> u64
     ensures { CountsBytes area len reads result }
 {

@@ -3,14 +3,15 @@
 ghost use Rattle.std.specs.Prelude.{◌≡◌, ℕ, ◌<◌, ◌+◌, ◌^◌, ◌≤◌, if◌then◌else◌, take, drop, length, nat_lt, OnOk, IfOk};
 ghost use Rattle.rm_types.specs.declared.areas.Area.{Area};
 ghost use Rattle.rm_outside.specs.Areas.{is_blocked};
-ghost use Rattle.rm_memory.specs.Areas.{of_area, image_of};
+ghost use Rattle.rm_outside.specs.PerArea.{of_area};
+ghost use Rattle.rm_memory.specs.Areas.{image_of};
 ghost use Rattle.rm_memory.specs.Crashes.{none, bit, applies, fills, after_write, left};
 ghost use Rattle.rm_memory.specs.Notes.{history, synced_in, total};
 
-use crate::areas::PerArea;
 use crate::contents::{copy_of, write_bytes};
 use crate::notes::{Note, Put};
 use crate::syncs::notes_to_sync;
+use rm_outside::PerArea;
 use rm_types::{Area, NoMemory};
 use std::alloc::Global;
 

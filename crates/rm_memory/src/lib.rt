@@ -1,12 +1,11 @@
-//! The outside in memory, for tests: a volume, a source and a sink that tell their content, and fail where they
-//! are told to and where memory runs out.
+//! The outside in memory, for tests: a volume, a source and a sink that model their content, and fail where
+//! the test says so and where memory runs out.
 //!
 //! A [`MemVolume`] notes each write and each sync that was answered Ok. What a read gives, and what a crash may
 //! leave, are functions of the notes; the bytes that a read gives stand beside them, and are always those that
 //! the notes give.
 #![tactic(auto)]
 
-mod areas;
 mod calls;
 mod contents;
 mod counts;
@@ -21,6 +20,3 @@ mod volume;
 pub use crash::FILLING;
 pub use streams::{MemSink, MemSource};
 pub use volume::MemVolume;
-
-#[cfg(test)]
-mod tests;

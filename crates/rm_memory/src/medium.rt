@@ -8,10 +8,10 @@ ghost use Rattle.rm_memory.specs.History.{content, Write, Sync};
 ghost use Rattle.rm_memory.specs.Crashes.{none, left};
 ghost use Rattle.rm_memory.specs.Notes.{history, total};
 
-use crate::areas::PerArea;
 use crate::contents::{copy_of, make_room, no_bytes, put_bytes, read_bytes};
 use crate::crash::image_left;
 use crate::notes::{Note, Put};
+use rm_outside::PerArea;
 use rm_types::{Area, NoMemory};
 use std::alloc::Global;
 
@@ -83,7 +83,7 @@ impl Medium {
         read_bytes(self.current.get(area), at as usize, into);
     }
 
-    /// Notes a write, and puts its bytes where it took. One that wants memory changes nothing.
+    /// Notes a write, and puts its bytes where it took. Out of memory, it changes nothing.
     pub fn write(&mut self, area: Area, at: u64, from: &[u8], took: bool) -> Result<(), NoMemory>
         requires { at + length from.now ≤ 2 ^ 49 }
         ensures ok { OnOk result (events self.new ≡ Write area at from.now took ∷ events self.old) }
@@ -108,7 +108,7 @@ impl Medium {
         Ok(())
     }
 
-    /// Notes a sync. One that wants memory changes nothing.
+    /// Notes a sync. Out of memory, it changes nothing.
     pub fn sync(&mut self, area: Area) -> Result<(), NoMemory>
         ensures ok { OnOk result (events self.new ≡ Sync area ∷ events self.old) }
         ensures err { OnErr result (events self.new ≡ events self.old) }

@@ -58,7 +58,7 @@ impl Plan {
         self.writes = 0;
     }
 
-    /// Counts a call, and answers whether it fails.
+    /// Counts a call, and returns whether it fails.
     pub fn call(&mut self) -> bool
         ensures due { result ≡ fails_call self.old }
         ensures listed { (n : ℕ) → 1 ≤ n → lists_call self.new n ≡ lists_call self.old (n + 1) }
@@ -70,7 +70,7 @@ impl Plan {
         self.stopped || listed
     }
 
-    /// Counts a write, and answers whether it fails.
+    /// Counts a write, and returns whether it fails.
     pub fn write_call(&mut self) -> bool
         ensures due { result ≡ fails_write self.old }
         ensures listed { (n : ℕ) → 1 ≤ n → lists_call self.new n ≡ lists_call self.old (n + 1) }

@@ -10,7 +10,7 @@ use crate::calls::count_call;
 use rm_outside::{Failed, Sink, Source};
 use std::alloc::Global;
 
-/// A source of bytes that tells what is left. It gives as many bytes as there is room for, and fails at the
+/// A source of bytes that models what is left. It gives as many bytes as there is room for, and fails at the
 /// reads that it was told.
 #[derive(Debug, Drop)]
 pub struct MemSource {
@@ -71,7 +71,7 @@ impl Source for MemSource {
     }
 }
 
-/// A sink that keeps what it takes, and tells it. It takes all that it is given; it fails at the writes that it
+/// A sink that keeps what it takes, and models it. It takes all that it is given; it fails at the writes that it
 /// was told, and where memory runs out.
 #[derive(Debug, Drop)]
 pub struct MemSink {

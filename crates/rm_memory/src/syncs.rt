@@ -1,7 +1,7 @@
 //! Where the notes have syncs.
 
 ghost use Rattle.std.specs.Prelude.{◌≡◌, ℕ, [], ◌∷◌, drop, nat_lt};
-ghost use Rattle.rm_memory.specs.Puts.{is_same};
+ghost use Rattle.rm_outside.specs.Areas.{is_same};
 ghost use Rattle.rm_memory.specs.Notes.{synced_in};
 
 use crate::notes::Note;

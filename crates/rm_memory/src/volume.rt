@@ -11,15 +11,14 @@ ghost use Rattle.rm_memory.specs.History.{Write, Sync, content, may_leave, left_
 ghost use Rattle.rm_memory.specs.Volumes.{events_of, base_of, content_of, may_leave_of, left_by, faults_of, is_listed, has_stopped, stops_in, writes_of, is_due, is_due_write, HasRoomFor, HasRoomToSync, HasRoomToList, Nears, KeepsWrites, CountsWrite, CountsFault, KeepsImages, KeepsOthers, IsFresh};
 ghost use Rattle.rm_memory.specs.Mediums.{events, base_image};
 
-use crate::areas::{PerArea, no_counts, raise};
 use crate::counts::{count_block, count_bytes};
 use crate::medium::Medium;
 use crate::plan::Plan;
-use rm_outside::{Failed, Volume};
+use rm_outside::{Failed, PerArea, Volume};
 use rm_types::{Area, NoMemory};
 use std::alloc::Global;
 
-/// A volume in memory that tells its content. It notes each write and each sync, so that it can give any image
+/// A volume in memory that models its content. It notes each write and each sync, so that it can give any image
 /// that a crash may leave. Calls fail where they were told to ([`MemVolume::fail_call`], [`MemVolume::stop_at`]),
 /// and a write or a sync also where memory runs out.
 ///
@@ -52,7 +51,7 @@ impl MemVolume {
         MemVolume {
             medium,
             plan: Plan::new(alloc),
-            faults: no_counts(),
+            faults: PerArea::all(0),
             data_reads: 0,
             log_reads: 0,
         }
@@ -119,7 +118,7 @@ impl MemVolume {
 impl Volume for MemVolume {
     ghost use Rattle.rm_memory.specs.Laws as laws;
 
-    ghost tells = { true };
+    ghost models_content = { true };
 
     ghost content = { content_of };
 
@@ -135,13 +134,13 @@ impl Volume for MemVolume {
 
     ghost log_reads = { λ volume. volume.log_reads };
 
-    ghost reference = { λ _. 0 };
+    ghost reference = { λ _. [] };
 
     ghost counts_now = { λ volume t c _ now. laws.counts_now (base_of volume) (events_of volume) t c now };
 
     ghost only_now = { λ volume c left. laws.only_now (base_of volume) (events_of volume) c left };
 
-    ghost only_told = { λ _ _ _. laws.told };
+    ghost only_modelled = { λ _ _ _. laws.models };
 
     ghost content_may_stay = { λ volume _. laws.content_may_stay (base_of volume) (events_of volume) };
 
@@ -167,7 +166,7 @@ impl Volume for MemVolume {
         let due = self.plan.call();
         self.data_reads = count_block(area, self.data_reads);
         if due {
-            raise(&mut self.faults, area);
+            self.faults.raise(area);
             return Err(Failed);
         }
         self.medium.read(area, at, into);
@@ -199,12 +198,12 @@ impl Volume for MemVolume {
         let stopped = self.plan.stopped;
         let due = self.plan.write_call();
         if stopped {
-            raise(&mut self.faults, area);
+            self.faults.raise(area);
             return Err(Failed);
         }
         let noted = self.medium.write(area, at, from, !due).is_ok();
         if due || !noted {
-            raise(&mut self.faults, area);
+            self.faults.raise(area);
             return Err(Failed);
         }
         Ok(())
@@ -230,11 +229,11 @@ impl Volume for MemVolume {
     {
         let due = self.plan.call();
         if due {
-            raise(&mut self.faults, area);
+            self.faults.raise(area);
             return Err(Failed);
         }
         if self.medium.sync(area).is_err() {
-            raise(&mut self.faults, area);
+            self.faults.raise(area);
             return Err(Failed);
         }
         Ok(())

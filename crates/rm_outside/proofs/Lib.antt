@@ -1,3 +1,4 @@
 pub mod StreamLemmas
 pub mod FaultLemmas
 pub mod ShowsLemmas
+pub mod CallLemmas

@@ -1,11 +1,11 @@
--- Bytes that stand one behind the other.
+-- Bytes that stand one after the other.
 use Rattle.std.proofs.Common.{◌≡◌, inl, inr, ℕ, ◌+◌, ◌-◌, ◌<◌, List, ◌++◌, length, get_or, sym, ap, ◌∙◌, arith, length-append}
 use Rattle.std.proofs.lemmas.Bool.{cases_lt}
 use Rattle.std.proofs.lemmas.List.{ext_get_or, places}
 use Rattle.std.proofs.Common.{rules}
 use Rattle.rm_outside.specs.Images.{Bytes, Shows}
 
--- what stands at the front
+-- the first ones
 pub shows_front : {area : Bytes} {at : ℕ} (first second : List ℕ) → Shows area at (first ++ second) → Shows area at first
 shows_front first second shown = record {
   each = λ k lt.
@@ -14,7 +14,7 @@ shows_front first second shown = record {
       shown.each k within ∙ here;
 }
 
--- what stands behind it
+-- the ones after them
 pub shows_back : {area : Bytes} {at : ℕ} (first second : List ℕ) → Shows area at (first ++ second) → Shows area (at + length first) second
 shows_back {area} {at} first second shown = record {
   each = λ k lt.
@@ -41,6 +41,6 @@ shows_both {area} {at} first second front back = record {
           ap area moved ∙ back.each (k - length first) (omega arith) ∙ sym here
     ]
 
--- as many bytes at one place are the same
+-- lists of one length that stand at one place are the same
 pub shows_once : {area : Bytes} {at : ℕ} (first second : List ℕ) → Shows area at first → Shows area at second → length first ≡ length second → first ≡ second
 shows_once first second one other same = ext_get_or 0 first second same (λ k lt. sym (one.each k lt) ∙ other.each k (omega arith))

@@ -14,9 +14,9 @@ Takes-append (Some bytes) b c x y first second =
     let then_second : Takes (Some (bytes ++ x)) c y = subst (λ (o : Option (List ℕ)). Takes o c y) first second in
     then_second ∙ ap Some (append_assoc bytes x y)
 
--- a front of a text that a sink took, and then a front of the rest
-pub Takes-front : (a b c : Option (List ℕ)) (text : List ℕ) (m n : ℕ) → Takes a b (take m text) → Takes b c (take n (drop m text)) → Takes a c (take (m + n) text)
-Takes-front a b c text m n first second =
+-- a prefix of a text that a sink took, and then a prefix of the rest
+pub Takes-prefix : (a b c : Option (List ℕ)) (text : List ℕ) (m n : ℕ) → Takes a b (take m text) → Takes b c (take n (drop m text)) → Takes a c (take (m + n) text)
+Takes-prefix a b c text m n first second =
     subst (λ (piece : List ℕ). Takes a c piece) (sym (take-add m n text)) (Takes-append a b c (take m text) (take n (drop m text)) first second)
 
 pub Gives-none : (a : Option (List ℕ)) → Gives a a []

@@ -4,7 +4,7 @@ use Rattle.rm_types.specs.declared.areas.Area.{Area}
 use Rattle.rm_types.specs.declared.areas.Area.TheVariants.{Master, Log, Data, Space, Copy}
 use Rattle.rm_outside.specs.Faults.{last_count}
 
--- a count with so many more; at its last value it stays
+-- a count with `by` more; at its last value it stays
 abbrev pub raised : ℕ → ℕ → ℕ
 raised count by = min (count + by) last_count
 
@@ -16,7 +16,7 @@ CountsBlock Log before after = after ≡ before
 CountsBlock Space before after = after ≡ before
 CountsBlock Copy before after = after ≡ before
 
--- a read of so many bytes of an area that was answered counts as so many bytes of Log, or as none
+-- a read of `len` bytes that succeeded counts as `len` bytes of Log, or as none
 abbrev pub CountsBytes : Area → ℕ → ℕ → ℕ → Type 0
 CountsBytes Log len before after = after ≡ raised before len
 CountsBytes Master len before after = after ≡ before
@@ -24,7 +24,7 @@ CountsBytes Data len before after = after ≡ before
 CountsBytes Space len before after = after ≡ before
 CountsBytes Copy len before after = after ≡ before
 
--- one that failed counts as at most so many
+-- one that failed counts as at most as many
 abbrev pub CountsAtMost : Area → ℕ → ℕ → ℕ → Type 0
 CountsAtMost Log len before after = (before ≤ after) × (after ≤ raised before len)
 CountsAtMost Master len before after = after ≡ before

@@ -1,5 +1,5 @@
 -- What a volume holds: the bytes of its five areas, at one moment.
-use Rattle.std.specs.Prelude.{◌≡◌, ℕ, ◌+◌, ◌<◌, ◌≤◌, List, length, slice_index, IsTrue, ◌⊎◌}
+use Rattle.std.specs.Prelude.{◌≡◌, ◌≢◌, ℕ, ◌+◌, ◌<◌, ◌≤◌, List, length, slice_index, IsTrue, ◌⊎◌}
 use Rattle.rm_types.specs.declared.areas.Area.{Area}
 use Rattle.rm_outside.specs.Areas.{is_blocked}
 
@@ -22,3 +22,7 @@ pub record Torn (area : Area) (at : ℕ) (bytes : List ℕ) (old new : Image) : 
   pub before : (k : ℕ) → k < at → new area k ≡ old area k
   pub after : (k : ℕ) → at + length bytes ≤ k → new area k ≡ old area k
   pub whole : IsTrue (is_blocked area) → (new area ≡ old area) ⊎ Shows (new area) at bytes
+
+-- the other areas stay
+pub record KeepsOthers (area : Area) (old new : Image) : Type 0 where
+  pub each : (other : Area) → other ≢ area → new other ≡ old other

@@ -1,4 +1,4 @@
--- What a source gives and what a sink takes, where they tell.
+-- What a source gives and what a sink takes, where they model it.
 use Rattle.std.specs.Prelude.{◌≡◌, ℕ, List, ◌++◌, Option, Some, None}
 
 -- the bytes that were left are these, and then those that are left now

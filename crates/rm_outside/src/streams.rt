@@ -2,7 +2,7 @@
 
 use crate::volume::Failed;
 
-/// A source of bytes. It tells the bytes that are left, where it can.
+/// A source of bytes. Where it can, it models the bytes that are left.
 pub trait Source {
     ghost use Rattle.std.specs.Prelude.{◌≡◌, ℕ, ◌≤◌, ◌<◌, List, [], length, take, Option, Some, IfOk};
     ghost use Rattle.rm_outside.specs.Faults.{HasCause};
@@ -14,7 +14,7 @@ pub trait Source {
     /// The bytes that are left, where they are known.
     ghost left: { Self → Option (List ℕ) };
 
-    /// Puts the next bytes at the front of `into`, and answers how many. None for a buffer that is
+    /// Puts the next bytes at the start of `into`, and gives their number. 0 for a buffer that is
     /// not empty is the end.
     fn read(&mut self, into: &mut [u8]) -> Result<usize, Failed>
         ensures bound { IfOk result (λ count. count ≤ length into.new) }
@@ -23,7 +23,7 @@ pub trait Source {
         ensures cause { HasCause (faults self.old) (faults self.new) result };
 }
 
-/// A sink of bytes. It tells the bytes that it took, where it can.
+/// A sink of bytes. Where it can, it models the bytes that it took.
 pub trait Sink {
     ghost use Rattle.std.specs.Prelude.{◌≡◌, ℕ, ◌≤◌, ◌<◌, List, length, take, Option, IfOk, OnErr};
     ghost use Rattle.rm_outside.specs.Faults.{HasCause, Rises};
@@ -35,8 +35,8 @@ pub trait Sink {
     /// The bytes that it took, where they are known.
     ghost taken: { Self → Option (List ℕ) };
 
-    /// Takes bytes from the front of `from`, and answers how many. None of a piece that is not empty
-    /// is a fault, which it counts. A write that fails may have taken some.
+    /// Takes a prefix of `from`, and gives its length. 0 of a piece that is not empty is a fault,
+    /// which it counts. A write that fails may have taken a prefix too.
     fn write(&mut self, from: &[u8]) -> Result<usize, Failed>
         ensures bound { IfOk result (λ count. count ≤ length from.now) }
         ensures bytes { IfOk result (λ count. Takes (taken self.old) (taken self.new) (take count from.now)) }

@@ -1,19 +1,21 @@
 //! A volume.
 
 use rm_types::Area;
+use thiserror::Error;
 
-/// The outside could not do what was asked. Its count of faults says so too.
-#[derive(Clone, Copy, Debug, PartialEq, Eq)]
+/// The outside could not do what was asked. Its count of faults shows it too.
+#[derive(Clone, Copy, Debug, PartialEq, Eq, Error)]
+#[error("a read, a write or a sync of the device failed")]
 pub struct Failed;
 
 /// A volume of five areas (docs/DEFINITIONS.md, "Volume").
 ///
 /// The areas Data, Space and Copy are read and written in whole blocks of 4,096 bytes; every range
-/// ends at 2^49 at most (`CanReach`). A volume that tells its content tells also which images a
+/// ends at 2^49 at most (`CanReach`). A volume that models its content also models which images a
 /// crash may leave, now and at each moment since an earlier one; of one that does not, as of real
-/// files, the clauses on faults and counts hold alone.
+/// files, only the clauses on faults and counts say something.
 pub trait Volume: Drop {
-    ghost use Rattle.std.specs.Prelude.{◌≡◌, ℕ, ◌≤◌, Bool, IsTrue, length, OnOk, OnErr};
+    ghost use Rattle.std.specs.Prelude.{◌≡◌, ℕ, ◌≤◌, Bool, IsTrue, List, length, OnOk, OnErr};
     ghost use Rattle.rm_types.specs.declared.areas.Area.{Area};
     ghost use Rattle.rm_outside.specs.Faults.{HasCause};
     ghost use Rattle.rm_outside.specs.Areas.{CanReach};
@@ -22,7 +24,7 @@ pub trait Volume: Drop {
     ghost use Rattle.rm_outside.specs.Counts.{CountsBlock, CountsBytes, CountsAtMost};
 
     /// Whether volumes of this type tell their content.
-    ghost tells: { Bool };
+    ghost models_content: { Bool };
 
     /// The image that a read gives.
     ghost content: { Self → Image };
@@ -36,7 +38,7 @@ pub trait Volume: Drop {
     /// What a crash at some moment from that one on might have left, during a call or between two.
     ghost left_since: { Self → ℕ → Image → Type 0 };
 
-    /// How often an area has failed.
+    /// How often each area has failed.
     ghost faults: { Self → Area → ℕ };
 
     /// How many blocks of Data were read.
@@ -45,13 +47,13 @@ pub trait Volume: Drop {
     /// How many bytes of Log were read.
     ghost log_reads: { Self → ℕ };
 
-    /// Which lent volume it is, where it is a `&mut` to one.
-    ghost reference: { Self → ℕ };
+    /// Which lent volume it is, where it is a `&mut` to one: a number for each `&mut`, the outermost first.
+    ghost reference: { Self → List ℕ };
 
     /// Fills `into` with the bytes at `at`.
     fn read(&mut self, area: Area, at: u64, into: &mut [u8]) -> Result<(), Failed>
         requires { CanReach area at (length into.old) }
-        ensures bytes { OnOk result (IsTrue tells → Shows (content self.old area) at into.new) }
+        ensures bytes { OnOk result (IsTrue models_content → Shows (content self.old area) at into.new) }
         ensures content { content self.new ≡ content self.old }
         ensures crash { AddsNone (may_leave self.old) (may_leave self.new) }
         ensures time { Elapses (moment self.old) (moment self.new) (left_since self.old) (left_since self.new) (may_leave self.new) }
@@ -66,7 +68,7 @@ pub trait Volume: Drop {
     /// that fails may have put a part of them too.
     fn write(&mut self, area: Area, at: u64, from: &[u8]) -> Result<(), Failed>
         requires { CanReach area at (length from.now) }
-        ensures written { OnOk result (IsTrue tells → Shows (content self.new area) at from.now) }
+        ensures written { OnOk result (IsTrue models_content → Shows (content self.new area) at from.now) }
         ensures content { Torn area at from.now (content self.old) (content self.new) }
         ensures crash { Follows (Torn area at from.now) (may_leave self.old) (may_leave self.new) }
         ensures time { Elapses (moment self.old) (moment self.new) (left_since self.old) (left_since self.new) (may_leave self.new) }
@@ -76,7 +78,7 @@ pub trait Volume: Drop {
         ensures log_bytes { log_reads self.new ≡ log_reads self.old }
         ensures same { reference self.new ≡ reference self.old };
 
-    /// Makes what was written to the area durable. One that fails made nothing durable for certain.
+    /// Makes what was written to the area durable. Where it fails, nothing is durable for certain.
     fn sync(&mut self, area: Area) -> Result<(), Failed>
         ensures durable { OnOk result (IsDurable area (content self.old) (may_leave self.new)) }
         ensures content { content self.new ≡ content self.old }
@@ -94,17 +96,17 @@ pub trait Volume: Drop {
     /// Since this moment there is no other.
     ghost only_now: { (volume : Self) (c : Image) → left_since volume (moment volume) c → may_leave volume c };
 
-    /// An image is left only where the volume tells.
-    ghost only_told: { (volume : Self) (c : Image) → may_leave volume c → IsTrue tells };
+    /// An image is left only where the volume models its content.
+    ghost only_modelled: { (volume : Self) (c : Image) → may_leave volume c → IsTrue models_content };
 
     /// What a read gives is one of the images.
-    ghost content_may_stay: { (volume : Self) → IsTrue tells → may_leave volume (content volume) };
+    ghost content_may_stay: { (volume : Self) → IsTrue models_content → may_leave volume (content volume) };
 }
 
 impl<V: Volume> Volume for &mut V {
-    ghost use Rattle.std.specs.Prelude.{◌≡◌};
+    ghost use Rattle.std.specs.Prelude.{◌≡◌, ◌∷◌};
 
-    ghost tells = { V.tells };
+    ghost models_content = { V.models_content };
 
     ghost content = { λ v. V.content v.now };
 
@@ -120,15 +122,15 @@ impl<V: Volume> Volume for &mut V {
 
     ghost log_reads = { λ v. V.log_reads v.now };
 
-    ghost reference = { λ v. v.ghost_name };
+    ghost reference = { λ v. v.ghost_name ∷ V.reference v.now };
 
     ghost counts_now = { λ v t c le now. V.counts_now v.now t c le now };
 
     ghost only_now = { λ v c left. V.only_now v.now c left };
 
-    ghost only_told = { λ v c left. V.only_told v.now c left };
+    ghost only_modelled = { λ v c left. V.only_modelled v.now c left };
 
-    ghost content_may_stay = { λ v tells. V.content_may_stay v.now tells };
+    ghost content_may_stay = { λ v models_content. V.content_may_stay v.now models_content };
 
     fn read(&mut self, area: Area, at: u64, into: &mut [u8]) -> Result<(), Failed> {
         V::read(self, area, at, into)

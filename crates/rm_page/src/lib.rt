@@ -124,28 +124,3 @@ impl Page {
         Ok(())
     }
 }
-
-#[cfg(test)]
-mod tests {
-    use super::*;
-    use std::test::Fail;
-
-    #[test]
-    fn counts_and_finds_rows(rt: HostRuntime) -> Result<(), Fail> {
-        let mut page = Page::new(rt.alloc());
-        assert_eq!(rt; (page.lsn(), page.slots(), page.used()), (Lsn(0), 0, 0));
-        page.set(2, b"oak", Lsn(7))?;
-        assert_eq!(rt; (page.lsn(), page.slots(), page.used()), (Lsn(7), 3, 15));
-        page.set(0, b"", Lsn(9))?;
-        page.set(2, b"rowan", Lsn(8))?;
-        assert_eq!(rt; (page.lsn(), page.slots(), page.used()), (Lsn(8), 3, 17));
-        assert!(rt; page.row(0).is_some_and(|row| row.is_empty()));
-        assert!(rt; page.row(1).is_none());
-        assert!(rt; page.row(2).is_some_and(|row| row == b"rowan".as_slice()));
-        assert!(rt; page.row(3).is_none());
-        assert_eq!(rt; page.least_vacant(0), 1);
-        assert_eq!(rt; page.least_vacant(2), 3);
-        assert_eq!(rt; page.least_vacant(9), 9);
-        Ok(())
-    }
-}

@@ -1,5 +1,6 @@
 -- A field that is read is the field that was written, and what was written is read again.
-use Rattle.std.proofs.Common.{◌≡◌, ℕ, suc, ◌+◌, ◌-◌, ◌^◌, ◌<◌, ◌≤◌, Bool, true, false, cond, ltb, eqb, List, [], ◌∷◌, ◌++◌, length, take, drop, Option, Some, None, ◌⊎◌, refl, sym, ap, subst, ◌∙◌, append_assoc, arith, inl, inr}
+use Rattle.std.proofs.Common.{◌≡◌, ℕ, suc, ◌+◌, ◌-◌, ◌^◌, ◌<◌, ◌≤◌, Bool, true, false, cond, ltb, eqb, List, [], ◌∷◌, ◌++◌}
+use Rattle.std.proofs.Common.{length, take, drop, Option, Some, None, ◌⊎◌, refl, sym, ap, subst, ◌∙◌, append_assoc, arith, inl, inr}
 use Rattle.std.specs.Prelude.{nat_le, nat_lt}
 use Rattle.std.specs.Int.{Width, w16, w32, w64, byte_len, from_be_bytes, to_be_bytes}
 use Rattle.std.proofs.lemmas.Bool.{cases_lt, ltb-false, ltb-true, le-ltb, lt-ltb, leb-true, le-leb, eqb-true}
@@ -16,7 +17,8 @@ use Rattle.rm_types.specs.declared.slots.TheConstants.{CAPACITY}
 use Rattle.rm_types.specs.declared.rows.TheConstants.{MAX_ROW}
 use Rattle.rm_record.specs.declared.fields.Change.{Change}
 use Rattle.rm_record.specs.Records.{AreBytes, IsTxn, IsRid, IsRow, IsSlot, IsChange, rid_bytes, row_bytes, slot_bytes, change_bytes}
-use Rattle.rm_record.specs.Fields.{◌>>=◌, Reads, kept, made, both, byte_field, number_field, number_up_to, number_between, txn_field, lsn_field, page_field, rid_field, need_field, change_field, row_field, slot_field, category_field, next_field}
+use Rattle.rm_record.specs.Fields.{◌>>=◌, Reads, kept, made, both, byte_field, number_field, number_up_to, number_between}
+use Rattle.rm_record.specs.Fields.{txn_field, lsn_field, page_field, rid_field, need_field, change_field, row_field, slot_field, category_field, next_field}
 
 AreBytes-drop : (n : ℕ) (bytes : List ℕ) → AreBytes bytes → AreBytes (drop n bytes)
 AreBytes-drop n bytes h i = rw get_or-drop (h (n + i))
@@ -62,7 +64,8 @@ pub record IsField {A : Type 0} (field : Reads A) (text : A → List ℕ) (Has :
   pub again : (x : A) (rest : List ℕ) → Has x → field (text x ++ rest) ≡ Some (x, rest)
 
 -- a field under a text and ranges in other words
-pub said_is : {A : Type 0} {field : Reads A} {s t : A → List ℕ} {P Q : A → Type 0} → ((x : A) → s x ≡ t x) → ((x : A) → P x → Q x) → ((x : A) → Q x → P x) → IsField field s P → IsField field t Q
+pub said_is : {A : Type 0} {field : Reads A} {s t : A → List ℕ} {P Q : A → Type 0} → ((x : A) → s x ≡ t x) → ((x : A) → P x → Q x)
+    → ((x : A) → Q x → P x) → IsField field s P → IsField field t Q
 said_is {A} {field} {s} {t} {P} {Q} same there back first = record {
   takes = λ bytes x fits e.
       let p = first.takes bytes x fits e in
@@ -70,7 +73,8 @@ said_is {A} {field} {s} {t} {P} {Q} same there back first = record {
   again = λ x rest h. ap (λ (l : List ℕ). field (l ++ rest)) (sym (same x)) ∙ first.again x rest (back x h);
 }
 
-pub both_is : {A B : Type 0} {f : Reads A} {g : Reads B} {s : A → List ℕ} {t : B → List ℕ} {P : A → Type 0} {Q : B → Type 0} → IsField f s P → IsField g t Q → IsField (both f g) (λ p. s p.0 ++ t p.1) (λ p. P p.0 × Q p.1)
+pub both_is : {A B : Type 0} {f : Reads A} {g : Reads B} {s : A → List ℕ} {t : B → List ℕ} {P : A → Type 0} {Q : B → Type 0} → IsField f s P
+    → IsField g t Q → IsField (both f g) (λ p. s p.0 ++ t p.1) (λ p. P p.0 × Q p.1)
 both_is {A} {B} {f} {g} {s} {t} {P} {Q} first second = record {
   takes = λ bytes x fits e.
       let a = bind_some (f bytes) (λ v. g v.1 >>= λ w. Some ((v.0, w.0), w.1)) x e in
@@ -83,7 +87,8 @@ both_is {A} {B} {f} {g} {s} {t} {P} {Q} first second = record {
   again = λ x rest h. ap (both f g) (append_assoc (s x.0) (t x.1) rest) ∙ rw (first.again x.0 (t x.1 ++ rest) h.0, second.again x.1 rest h.1) refl;
 }
 
-pub made_is : {A B : Type 0} (make : A → B) (part : B → A) {f : Reads A} {s : A → List ℕ} {P : A → Type 0} → ((x : A) → part (make x) ≡ x) → ((y : B) → make (part y) ≡ y) → IsField f s P → IsField (made make f) (λ y. s (part y)) (λ y. P (part y))
+pub made_is : {A B : Type 0} (make : A → B) (part : B → A) {f : Reads A} {s : A → List ℕ} {P : A → Type 0} → ((x : A) → part (make x) ≡ x)
+    → ((y : B) → make (part y) ≡ y) → IsField f s P → IsField (made make f) (λ y. s (part y)) (λ y. P (part y))
 made_is {A} {B} make part {f} {s} {P} there back first = record {
   takes = λ bytes x fits e.
       let a = bind_some (f bytes) (λ v. Some (make v.0, v.1)) x e in
@@ -94,7 +99,8 @@ made_is {A} {B} make part {f} {s} {P} there back first = record {
   again = λ y rest h. rw (first.again (part y) rest h, back y) refl;
 }
 
-pub kept_is : {A : Type 0} (passes : A → Bool) (Q : A → Type 0) {f : Reads A} {s : A → List ℕ} {P : A → Type 0} → ((x : A) → P x → passes x ≡ true → Q x) → ((x : A) → Q x → P x × (passes x ≡ true)) → IsField f s P → IsField (kept passes f) s Q
+pub kept_is : {A : Type 0} (passes : A → Bool) (Q : A → Type 0) {f : Reads A} {s : A → List ℕ} {P : A → Type 0}
+    → ((x : A) → P x → passes x ≡ true → Q x) → ((x : A) → Q x → P x × (passes x ≡ true)) → IsField f s P → IsField (kept passes f) s Q
 kept_is {A} passes Q {f} {s} {P} tells told first = record {
   takes = λ bytes x fits e.
       let a = bind_some (f bytes) (λ v. cond (passes v.0) (Some v) None) x e in
@@ -136,15 +142,18 @@ wide64 = record {
   below = λ bytes fits. omega (arith, fits 0, fits 1, fits 2, fits 3, fits 4, fits 5, fits 6, fits 7);
 }
 
-number_takes : (w : Width) (limit : ℕ) (wide : IsWide w limit) (bytes : List ℕ) (x : ℕ × List ℕ) → AreBytes bytes → number_field w bytes ≡ Some x → Takes bytes (to_be_bytes w x.0) x.1 × (x.0 < limit)
+number_takes : (w : Width) (limit : ℕ) (wide : IsWide w limit) (bytes : List ℕ) (x : ℕ × List ℕ) → AreBytes bytes
+    → number_field w bytes ≡ Some x → Takes bytes (to_be_bytes w x.0) x.1 × (x.0 < limit)
 number_takes w limit wide bytes x fits e =
     let found : ℕ × List ℕ = (from_be_bytes w (take (byte_len w) bytes), drop (byte_len w) bytes) in
     let g = not_failed (ltb (length bytes) (byte_len w)) found x e in
     let long : byte_len w ≤ length bytes = ltb-false _ _ g.0 in
-    let front_fits = AreBytes-take (byte_len w) bytes fits in
-    let front : to_be_bytes w found.0 ≡ take (byte_len w) bytes = wide.back (take (byte_len w) bytes) (omega (arith, length-take (byte_len w) bytes)) front_fits in
-    let whole : Takes bytes (to_be_bytes w found.0) found.1 = record { parts = rw front (sym (take-append-drop (byte_len w) bytes)); rest_fits = AreBytes-drop (byte_len w) bytes fits } in
-    subst (λ (y : ℕ × List ℕ). Takes bytes (to_be_bytes w y.0) y.1 × (y.0 < limit)) g.1 (whole, wide.below (take (byte_len w) bytes) front_fits)
+    let first_fits = AreBytes-take (byte_len w) bytes fits in
+    let first : to_be_bytes w found.0 ≡ take (byte_len w) bytes =
+    wide.back (take (byte_len w) bytes) (omega (arith, length-take (byte_len w) bytes)) first_fits in
+    let whole : Takes bytes (to_be_bytes w found.0) found.1 =
+    record { parts = rw first (sym (take-append-drop (byte_len w) bytes)); rest_fits = AreBytes-drop (byte_len w) bytes fits } in
+    subst (λ (y : ℕ × List ℕ). Takes bytes (to_be_bytes w y.0) y.1 × (y.0 < limit)) g.1 (whole, wide.below (take (byte_len w) bytes) first_fits)
 
 number_again : (w : Width) (limit : ℕ) (wide : IsWide w limit) (n : ℕ) (rest : List ℕ) → n < limit → number_field w (to_be_bytes w n ++ rest) ≡ Some (n, rest)
 number_again w limit wide n rest lt =
@@ -162,7 +171,8 @@ up_to_is w limit high wide within =
     (λ n le. (omega arith, le-leb n high le))
     (number_is w limit wide)
 
-pub between_is : (w : Width) (limit low high : ℕ) (wide : IsWide w limit) → high < limit → IsField (number_between w low high) (to_be_bytes w) (λ n. (low ≤ n) × (n ≤ high))
+pub between_is : (w : Width) (limit low high : ℕ) (wide : IsWide w limit) → high < limit
+    → IsField (number_between w low high) (to_be_bytes w) (λ n. (low ≤ n) × (n ≤ high))
 between_is w limit low high wide within =
     kept_is (λ n. nat_le low n) (λ n. (low ≤ n) × (n ≤ high))
     (λ n le passes. (leb-true low n passes, le))
@@ -212,13 +222,15 @@ need_is = up_to_is w16 (2 ^ 16) CAPACITY wide16 (omega arith)
 abbrev ChangeParts : Type 0
 ChangeParts = TxnId × (Lsn × (Rid × ℕ))
 
-pub change_is : IsField change_field (λ change. change_bytes change.txn change.under change.rid change.need) (λ change. IsChange change.txn change.under change.rid change.need)
+pub change_is : IsField change_field (λ change. change_bytes change.txn change.under change.rid change.need)
+    (λ change. IsChange change.txn change.under change.rid change.need)
 unfolding change_field
 change_is =
     said_is (λ change. refl)
     (λ change p. record { by = p.0; above = p.1.0; place = p.1.1.0; reserved = p.1.1.1 })
     (λ change is. (is.by, (is.above, (is.place, is.reserved))))
-    (made_is (λ (p : ChangeParts). let change : Change = record { txn = p.0; under = p.1.0; rid = p.1.1.0; need = p.1.1.1 } in change) (λ change. (change.txn, (change.under, (change.rid, change.need)))) (λ p. refl) (λ change. refl)
+    (made_is (λ (p : ChangeParts). let change : Change = record { txn = p.0; under = p.1.0; rid = p.1.1.0; need = p.1.1.1 } in change)
+    (λ change. (change.txn, (change.under, (change.rid, change.need)))) (λ p. refl) (λ change. refl)
     (both_is txn_is (both_is lsn_is (both_is rid_is need_is))))
 
 pub category_is : IsField category_field (λ n. n ∷ []) (λ n. n ≤ MAX_RECORDED_CATEGORY)
@@ -250,7 +262,8 @@ row_takes bytes x fits e =
     let len : length (take n.0 n.1) ≡ n.0 = omega (arith, length-take n.0 n.1) in
     let second : Takes n.1 (take n.0 n.1) (drop n.0 n.1) = record { parts = sym (take-append-drop n.0 n.1); rest_fits = AreBytes-drop n.0 n.1 t.0.rest_fits } in
     let whole = Takes-then bytes (to_be_bytes w16 n.0) n.1 (take n.0 n.1) (drop n.0 n.1) t.0 second in
-    let spelled : Takes bytes (row_bytes (take n.0 n.1)) (drop n.0 n.1) = subst (λ (k : ℕ). Takes bytes (to_be_bytes w16 k ++ take n.0 n.1) (drop n.0 n.1)) (sym len) whole in
+    let spelled : Takes bytes (row_bytes (take n.0 n.1)) (drop n.0 n.1) =
+    subst (λ (k : ℕ). Takes bytes (to_be_bytes w16 k ++ take n.0 n.1) (drop n.0 n.1)) (sym len) whole in
     let is : IsRow (take n.0 n.1) = record { short = omega (arith, t.1); are_bytes = AreBytes-take n.0 n.1 t.0.rest_fits } in
     subst (λ (y : List ℕ × List ℕ). Takes bytes (row_bytes y.0) y.1 × IsRow y.0) g.1 (spelled, is)
 
@@ -277,13 +290,15 @@ nothing x e = absurd cc
 pub Takes-after : (byte : ℕ) (bytes text rest : List ℕ) → Takes bytes text rest → Takes (byte ∷ bytes) (byte ∷ text) rest
 Takes-after byte bytes text rest t = record { parts = ap (λ (l : List ℕ). byte ∷ l) t.parts; rest_fits = t.rest_fits }
 
-vacant_takes : (bytes : List ℕ) (x : Slot × List ℕ) → AreBytes bytes → (let found : Option (Slot × List ℕ) = Some (slot.Vacant, bytes) in found ≡ Some x) → Takes (0 ∷ bytes) (slot_bytes x.0) x.1 × IsSlot x.0
+vacant_takes : (bytes : List ℕ) (x : Slot × List ℕ) → AreBytes bytes
+    → (let found : Option (Slot × List ℕ) = Some (slot.Vacant, bytes) in found ≡ Some x) → Takes (0 ∷ bytes) (slot_bytes x.0) x.1 × IsSlot x.0
 vacant_takes bytes x fits e =
     let found : Slot × List ℕ = (slot.Vacant, bytes) in
     let whole : Takes (0 ∷ bytes) (0 ∷ []) bytes = record { parts = refl; rest_fits = fits } in
     subst (λ (y : Slot × List ℕ). Takes (0 ∷ bytes) (slot_bytes y.0) y.1 × IsSlot y.0) (some_is found x e) (whole, tt)
 
-occupied_takes : (bytes : List ℕ) (x : Slot × List ℕ) → AreBytes bytes → made (λ row. slot.Row row) row_field bytes ≡ Some x → Takes (1 ∷ bytes) (slot_bytes x.0) x.1 × IsSlot x.0
+occupied_takes : (bytes : List ℕ) (x : Slot × List ℕ) → AreBytes bytes → made (λ row. slot.Row row) row_field bytes ≡ Some x
+    → Takes (1 ∷ bytes) (slot_bytes x.0) x.1 × IsSlot x.0
 occupied_takes bytes x fits e =
     let a = bind_some (row_field bytes) (λ p. Some (slot.Row p.0, p.1)) x e in
     let t = row_is.takes bytes a.0 fits a.1 in

@@ -15,8 +15,11 @@ use Rattle.rm_record.specs.declared.records.LogRecord.TheVariants as log
 use Rattle.rm_record.specs.Places.{places_bytes, ArePlaces}
 use Rattle.rm_record.specs.Records.{AreBytes, IsTxn, IsRid, IsRow, IsSlot, IsChange, IsRecord, rid_bytes, row_bytes, slot_bytes, change_bytes, spelling}
 use Rattle.rm_record.specs.Fields.{Reads, made}
-use Rattle.rm_record.specs.Reading.{row_parts, insert_fields, delete_fields, update_parts, update_fields, compensate_parts, compensate_fields, inventory_parts, inventory_fields, commit_fields, end_fields, checkpoint_parts, checkpoint_fields, fields_of, record_field}
-use Rattle.rm_record.proofs.FieldLaws.{bind_some, some_is, Takes, Takes-after, IsField, both_is, chosen, nothing, txn_is, lsn_is, page_is, rid_is, change_is, row_is, slot_is, category_is, next_is}
+use Rattle.rm_record.specs.Reading.{row_parts, insert_fields, delete_fields, update_parts, update_fields, compensate_parts}
+use Rattle.rm_record.specs.Reading.{compensate_fields, inventory_parts, inventory_fields, commit_fields, end_fields}
+use Rattle.rm_record.specs.Reading.{checkpoint_parts, checkpoint_fields, fields_of, record_field}
+use Rattle.rm_record.proofs.FieldLaws.{bind_some, some_is, Takes, Takes-after, IsField, both_is, chosen, nothing, txn_is, lsn_is}
+use Rattle.rm_record.proofs.FieldLaws.{page_is, rid_is, change_is, row_is, slot_is, category_is, next_is}
 use Rattle.rm_record.proofs.PlaceLaws.{places_are}
 
 -- what is read after a kind is a record of that kind
@@ -57,9 +60,12 @@ update_parts_are = both_is change_is (both_is row_is row_is)
 
 update_takes : Kind 3 update_fields
 unfolding update_fields
-update_takes = kind_of 3 (λ (p : Change × (List ℕ × List ℕ)). log.Update p.0.txn p.0.under p.0.rid p.0.need p.1.0 p.1.1) update_parts_are (λ p. refl) (λ p has. has)
+update_takes =
+    kind_of 3 (λ (p : Change × (List ℕ × List ℕ)). log.Update p.0.txn p.0.under p.0.rid p.0.need p.1.0 p.1.1) update_parts_are (λ p. refl)
+    (λ p has. has)
 
-compensate_parts_are : IsField compensate_parts (λ p. to_be_bytes w32 p.0.0 ++ (to_be_bytes w64 p.1.0.0 ++ (to_be_bytes w64 p.1.1.0.0 ++ (rid_bytes p.1.1.1.0 ++ slot_bytes p.1.1.1.1))))
+compensate_parts_are : IsField compensate_parts
+    (λ p. to_be_bytes w32 p.0.0 ++ (to_be_bytes w64 p.1.0.0 ++ (to_be_bytes w64 p.1.1.0.0 ++ (rid_bytes p.1.1.1.0 ++ slot_bytes p.1.1.1.1))))
     (λ p. IsTxn p.0 × ((p.1.0.0 < 2 ^ 64) × ((p.1.1.0.0 < 2 ^ 64) × (IsRid p.1.1.1.0 × IsSlot p.1.1.1.1))))
 compensate_parts_are = both_is txn_is (both_is lsn_is (both_is lsn_is (both_is rid_is slot_is)))
 
@@ -69,13 +75,15 @@ compensate_takes =
     kind_of 4 (λ (p : TxnId × (Lsn × (Lsn × (Rid × Slot)))). log.Compensate p.0 p.1.0 p.1.1.0 p.1.1.1.0 p.1.1.1.1) compensate_parts_are (λ p. refl)
     (λ p has. record { by = has.0; undoes = has.1.0; above = has.1.1.0; place = has.1.1.1.0; held = has.1.1.1.1 })
 
-inventory_parts_are : IsField inventory_parts (λ p. to_be_bytes w32 p.0.0 ++ (to_be_bytes w32 p.1.0 ++ p.1.1 ∷ [])) (λ p. IsTxn p.0 × ((p.1.0 < MAX_PAGES) × (p.1.1 ≤ MAX_RECORDED_CATEGORY)))
+inventory_parts_are : IsField inventory_parts (λ p. to_be_bytes w32 p.0.0 ++ (to_be_bytes w32 p.1.0 ++ p.1.1 ∷ []))
+    (λ p. IsTxn p.0 × ((p.1.0 < MAX_PAGES) × (p.1.1 ≤ MAX_RECORDED_CATEGORY)))
 inventory_parts_are = both_is txn_is (both_is page_is category_is)
 
 inventory_takes : Kind 5 inventory_fields
 unfolding inventory_fields
 inventory_takes =
-    kind_of 5 (λ (p : TxnId × (ℕ × ℕ)). log.Inventory p.0 p.1.0 p.1.1) inventory_parts_are (λ p. refl) (λ p has. record { by = has.0; page_in = has.1.0; category_in = has.1.1 })
+    kind_of 5 (λ (p : TxnId × (ℕ × ℕ)). log.Inventory p.0 p.1.0 p.1.1) inventory_parts_are (λ p. refl)
+    (λ p has. record { by = has.0; page_in = has.1.0; category_in = has.1.1 })
 
 commit_takes : Kind 6 commit_fields
 unfolding commit_fields
@@ -88,7 +96,8 @@ end_takes = kind_of 7 (λ txn. log.End txn) txn_is (λ txn. refl) (λ txn has. h
 checkpoint_parts_are : IsField checkpoint_parts (λ p. to_be_bytes w64 p.0 ++ (places_bytes p.1.0 ++ (places_bytes p.1.1.0 ++ places_bytes p.1.1.1)))
     (λ p. ((0 < p.0) × (p.0 ≤ 2 ^ 32)) × (ArePlaces 1 (2 ^ 32 - 1) p.1.0 × (ArePlaces 0 (MAX_PAGES - 1) p.1.1.0 × ArePlaces 0 (MAX_BLOCKS - 1) p.1.1.1)))
 checkpoint_parts_are =
-    both_is next_is (both_is (places_are 1 (2 ^ 32 - 1) (omega arith)) (both_is (places_are 0 (MAX_PAGES - 1) (omega arith)) (places_are 0 (MAX_BLOCKS - 1) (omega arith))))
+    both_is next_is (both_is (places_are 1 (2 ^ 32 - 1) (omega arith))
+    (both_is (places_are 0 (MAX_PAGES - 1) (omega arith)) (places_are 0 (MAX_BLOCKS - 1) (omega arith))))
 
 checkpoint_takes : Kind 8 checkpoint_fields
 unfolding checkpoint_fields
@@ -99,7 +108,8 @@ checkpoint_takes =
 -- ---- any kind
 
 -- the kind, or what is read of the others
-first_kind : (expected kind : ℕ) (fields : Reads LogRecord) (others : Option (LogRecord × List ℕ)) (bytes : List ℕ) (x : LogRecord × List ℕ) → AreBytes bytes → Kind expected fields
+first_kind : (expected kind : ℕ) (fields : Reads LogRecord) (others : Option (LogRecord × List ℕ)) (bytes : List ℕ) (x : LogRecord × List ℕ)
+    → AreBytes bytes → Kind expected fields
     → (others ≡ Some x → Takes (kind ∷ bytes) (spelling x.0) x.1 × IsRecord x.0) → cond (eqb kind expected) (fields bytes) others ≡ Some x
     → Takes (kind ∷ bytes) (spelling x.0) x.1 × IsRecord x.0
 first_kind expected kind fields others bytes x fits here other e =

@@ -18,11 +18,13 @@ slot_short slot.Vacant is = (omega arith, omega arith)
 slot_short (slot.Row row) is = (omega arith, omega (arith, is.short))
 
 pub length-checkpoint : (next : ℕ) (losers pages blocks : List Place)
-    → length (spelling (log.Checkpoint next losers pages blocks)) ≡ 9 + (length (places_bytes losers) + (length (places_bytes pages) + length (places_bytes blocks)))
+    → length (spelling (log.Checkpoint next losers pages blocks))
+    ≡ 9 + (length (places_bytes losers) + (length (places_bytes pages) + length (places_bytes blocks)))
 length-checkpoint next losers pages blocks =
     omega (arith, length-append (places_bytes losers) (places_bytes pages ++ places_bytes blocks), length-append (places_bytes pages) (places_bytes blocks))
 
-pub checkpoint_short : (next : ℕ) (losers pages blocks : List Place) → IsCheckpoint next losers pages blocks → length (spelling (log.Checkpoint next losers pages blocks)) ≤ MAX_RECORD
+pub checkpoint_short : (next : ℕ) (losers pages blocks : List Place) → IsCheckpoint next losers pages blocks
+    → length (spelling (log.Checkpoint next losers pages blocks)) ≤ MAX_RECORD
 checkpoint_short next losers pages blocks is =
     omega (
       arith,

@@ -1,5 +1,6 @@
 -- Reading from left to right: a field is a value and the bytes after it, or none.
-use Rattle.std.specs.Prelude.{◌≡◌, ℕ, zero, suc, ◌+◌, ◌-◌, ◌^◌, List, [], ◌∷◌, length, take, drop, Bool, Option, Some, None, Result, Ok, Err, nat_lt, nat_le, ◌==◌, if◌then◌else◌}
+use Rattle.std.specs.Prelude.{◌≡◌, ℕ, zero, suc, ◌+◌, ◌-◌, ◌^◌, List, [], ◌∷◌, length, take, drop, Bool, Option, Some, None}
+use Rattle.std.specs.Prelude.{Result, Ok, Err, nat_lt, nat_le, ◌==◌, if◌then◌else◌}
 use Rattle.std.specs.Int.{Width, w16, w32, w64, byte_len, from_be_bytes}
 use Rattle.rm_types.specs.declared.numbers.TxnId.{TxnId}
 use Rattle.rm_types.specs.declared.numbers.Lsn.{Lsn}
@@ -97,7 +98,9 @@ need_field bytes = number_up_to w16 CAPACITY bytes
 
 -- what each change begins with
 unfoldable pub change_field : Reads Change
-change_field bytes = made (λ (txn, (under, (rid, need))). record { txn = txn; under = under; rid = rid; need = need }) (both txn_field (both lsn_field (both rid_field need_field))) bytes
+change_field bytes =
+    made (λ (txn, (under, (rid, need))). record { txn = txn; under = under; rid = rid; need = need })
+    (both txn_field (both lsn_field (both rid_field need_field))) bytes
 
 -- a row
 unfoldable pub row_field : Reads (List ℕ)

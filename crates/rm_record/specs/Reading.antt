@@ -9,7 +9,8 @@ use Rattle.rm_types.specs.declared.slots.Slot.{Slot}
 use Rattle.rm_record.specs.declared.fields.Change.{Change}
 use Rattle.rm_record.specs.declared.records.LogRecord.{LogRecord}
 use Rattle.rm_record.specs.declared.records.LogRecord.TheVariants as log
-use Rattle.rm_record.specs.Fields.{Reads, made, both, txn_field, lsn_field, page_field, rid_field, change_field, row_field, slot_field, category_field, next_field, places_field}
+use Rattle.rm_record.specs.Fields.{Reads, made, both, txn_field, lsn_field, page_field, rid_field, change_field, row_field}
+use Rattle.rm_record.specs.Fields.{slot_field, category_field, next_field, places_field}
 
 -- a change and a row
 abbrev pub row_parts : Reads (Change × List ℕ)

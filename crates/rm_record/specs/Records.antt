@@ -40,7 +40,8 @@ abbrev pub spelling : LogRecord → List ℕ
 spelling (log.Insert txn under rid need row) = 1 ∷ (change_bytes txn under rid need ++ row_bytes row)
 spelling (log.Delete txn under rid need row) = 2 ∷ (change_bytes txn under rid need ++ row_bytes row)
 spelling (log.Update txn under rid need before after) = 3 ∷ (change_bytes txn under rid need ++ (row_bytes before ++ row_bytes after))
-spelling (log.Compensate txn undone next rid back) = 4 ∷ (to_be_bytes w32 txn.0 ++ (to_be_bytes w64 undone.0 ++ (to_be_bytes w64 next.0 ++ (rid_bytes rid ++ slot_bytes back))))
+spelling (log.Compensate txn undone next rid back) =
+    4 ∷ (to_be_bytes w32 txn.0 ++ (to_be_bytes w64 undone.0 ++ (to_be_bytes w64 next.0 ++ (rid_bytes rid ++ slot_bytes back))))
 spelling (log.Inventory txn page category) = 5 ∷ (to_be_bytes w32 txn.0 ++ (to_be_bytes w32 page ++ category ∷ []))
 spelling (log.Commit txn) = 6 ∷ to_be_bytes w32 txn.0
 spelling (log.End txn) = 7 ∷ to_be_bytes w32 txn.0

@@ -13,9 +13,6 @@ mod records;
 mod refused;
 mod writing;
 
-pub use laws::{no_spelling_begins_another, spellings_are_short};
+pub use laws::{categories_are_recorded, no_spelling_begins_another, spellings_are_short};
 pub use records::{LogRecord, Logged, MAX_CHANGE, MAX_RECORD, MAX_RECORDED_CATEGORY, MIN_RECORD};
 pub use refused::DecodeRefused;
-
-#[cfg(test)]
-mod tests;

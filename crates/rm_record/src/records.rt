@@ -20,8 +20,8 @@ pub const MAX_RECORD: usize = CHECKPOINT_FRONT as usize
 /// The most bytes of a record that is no checkpoint: an update of one of the longest rows by another.
 pub const MAX_CHANGE: usize = CHANGE_FRONT as usize + 2 * (LENGTH_SIZE as usize + MAX_ROW);
 
-/// The greatest category that a record can have: the range of its byte, whatever the format. No format's greatest
-/// category is above it.
+/// The greatest category that a record can have: the range of its byte in the grammar, whatever the format. A format's
+/// own greatest category is at most this.
 pub const MAX_RECORDED_CATEGORY: u8 = 3;
 
 /// The kind byte of an insert.

@@ -14,11 +14,11 @@ use Rattle.rm_model.specs.Files.{page_at, slots_of}
 use Rattle.rm_record.specs.declared.records.LogRecord.{LogRecord}
 use Rattle.rm_record.specs.declared.records.LogRecord.TheVariants.{Insert}
 use Rattle.rm_record.specs.declared.records.Logged.{Logged}
-use Rattle.rm_history.specs.Acts.{History, changes, undoes, enters, commits, ends, lists, act_at, act_of, acts_onto, acts_of}
+use Rattle.rm_history.specs.Acts.{History, changes, undoes, enters, commits, ends, marks, act_at, act_of, acts_onto, acts_of}
 use Rattle.rm_history.specs.Contents.{page_of}
 use Rattle.rm_history.specs.Counts.{repeat_count}
 use Rattle.rm_history.specs.Batched.{AreBelow}
-use Rattle.rm_history.proofs.Behind.{acts_onto-append, acts_of-snoc, lsn_of-act_at}
+use Rattle.rm_history.proofs.Appending.{acts_onto-append, acts_of-snoc, lsn_of-act_at}
 use Rattle.rm_restart.specs.declared.replay.ReplayRefused.{ReplayRefused}
 use Rattle.rm_restart.specs.declared.replay.ReplayRefused.TheVariants.{Misfit, NoMemory}
 use Rattle.rm_restart.specs.Plain.{ArePlain}
@@ -35,7 +35,7 @@ repeats_few (undoes u ∷ before) = omega (arith, repeats_few before)
 repeats_few (enters e ∷ before) = omega (arith, repeats_few before)
 repeats_few (commits f ∷ before) = omega (arith, repeats_few before)
 repeats_few (ends f ∷ before) = omega (arith, repeats_few before)
-repeats_few (lists l ∷ before) = omega (arith, repeats_few before)
+repeats_few (marks m ∷ before) = omega (arith, repeats_few before)
 
 length-acts_onto : (history : History) (log : List Logged) → length (acts_onto history log) ≡ length history + length log
 length-acts_onto history [] = omega arith

@@ -1,12 +1,12 @@
 -- What is opened, and why not, by what the log and the master said.
-use Rattle.std.proofs.Common.{◌≡◌, inl, ℕ, ◌+◌, List, [], ◌∷◌, length, Result, Ok, Err, IfOk, OnOk, false, refl, sym, ap, subst, ◌∙◌}
+use Rattle.std.proofs.Common.{◌≡◌, inl, inr, ℕ, ◌+◌, List, [], ◌∷◌, length, Result, Ok, Err, IfOk, OnOk, IsTrue, false, refl, sym, ap, subst, ◌∙◌}
 use Rattle.std.proofs.lemmas.Bool.{true≢false}
 use Rattle.rm_types.specs.declared.areas.Area.{Area}
 use Rattle.rm_types.specs.declared.areas.Area.TheVariants.{Master, Log}
 use Rattle.rm_types.specs.declared.faults.Fault.TheVariants as fault
 use Rattle.rm_types.specs.declared.faults.StoreFault.{StoreFault}
 use Rattle.rm_types.specs.declared.faults.StoreFault.TheVariants as store
-use Rattle.rm_outside.specs.Faults.{Rises}
+use Rattle.rm_outside.specs.Calls.{Facts, IsStoreFaultIn, LeavesContent}
 use Rattle.rm_outside.specs.Images.{Image}
 use Rattle.rm_record.specs.declared.records.Logged.{Logged}
 use Rattle.rm_master.specs.declared.fields.Fields.{Fields}
@@ -29,21 +29,20 @@ use Rattle.rm_restart.specs.Outcomes.{Explains, of_store, IsNone}
 use Rattle.rm_restart.specs.Replaying.{has_some, Replays}
 
 -- a fault of the log's attaching
-pub explains_store : {T : Type 0} (told : Type 0) (content : Image) (before after : Area → ℕ) (fields : Fields) (result : Result T StoreFault) (e : StoreFault) → result ≡ Err e
-    → (told → HasFields (content Master) fields)
-    → ((area : Area) (at : ℕ) → result ≡ Err (store.Fault (fault.Damaged area at)) → (area ≡ Log) × (told → IsLogDamagedAt (content Log) at))
-    → ((area : Area) → result ≡ Err (store.Fault (fault.Volume area)) → (area ≡ Log) × Rises (before Log) (after Log))
-    → Explains told content before after (of_store e)
-explains_store told content before after fields result (store.Fault (fault.Damaged area at)) is has damaged cause =
-    let found = damaged area at is in
-    λ tells. record {
-      made = λ unmade. unmade (has tells).made;
-      damage = subst (λ (a : Area). IsDamage content a at) (sym found.0) (inl (found.1 tells));
-    }
-explains_store told content before after fields result (store.Fault (fault.Volume area)) is has damaged cause =
-    let found = cause area is in
-    subst (λ (a : Area). Rises (before a) (after a)) (sym found.0) found.1
-explains_store told content before after fields result store.NoMemory is has damaged cause = tt
+pub explains_store : (old new : Facts) (fields : Fields) (e : StoreFault) → (IsTrue old.models_content → HasFields (old.content Master) fields) → fields.checkpoint ≡ 0 → LeavesContent new
+    → ((area : Area) (at : ℕ) → e ≡ store.Fault (fault.Damaged area at) → (area ≡ Log) × (IsTrue old.models_content → IsLogDamagedAt (old.content Log) at))
+    → IsStoreFaultIn Log old.faults new.faults e → Explains old new (of_store e)
+explains_store old new fields (store.Fault (fault.Damaged area at)) has none synced damaged cause =
+    let found = damaged area at refl in (
+      λ models. record {
+        made = λ unmade. unmade (has models).made;
+        damage = subst (λ (a : Area). IsDamage old.content a at) (sym found.0)
+            (inr (inl (record { fields = fields; read = has models; checkpoint = none; damage = found.1 models })));
+      },
+      synced,
+    )
+explains_store old new fields (store.Fault (fault.Volume area)) has none synced damaged cause = cause.1
+explains_store old new fields store.NoMemory has none synced damaged cause = tt
 
 none_pending : (changes : List Change) → has_some changes ≡ false → changes ≡ []
 none_pending [] none = refl

@@ -3,7 +3,7 @@ use Rattle.std.proofs.Common.{◌≡◌, ℕ, zero, suc, ◌≤◌, Bool, true, 
 use Rattle.std.specs.List.{AllByRecursion}
 use Rattle.rm_types.specs.declared.slots.TheConstants.{CAPACITY}
 use Rattle.rm_model.specs.Pages.{used, row_length}
-use Rattle.rm_history.specs.Acts.{Change, History, changes, undoes, enters, commits, ends, lists}
+use Rattle.rm_history.specs.Acts.{Change, History, changes, undoes, enters, commits, ends, marks}
 use Rattle.rm_history.specs.Contents.{page_of}
 use Rattle.rm_history.specs.Pending.{pending_of}
 use Rattle.rm_history.specs.Needs.{on_page, need_for, need_of, sum_below, Fits}
@@ -31,7 +31,7 @@ pending_inserts (undoes u ∷ before) plain txn = absurd plain.0
 pending_inserts (enters e ∷ before) plain txn = absurd plain.0
 pending_inserts (commits f ∷ before) plain txn = inserts_none (eqb f.txn txn) (pending_of before txn) (pending_inserts before plain.1 txn)
 pending_inserts (ends f ∷ before) plain txn = absurd plain.0
-pending_inserts (lists l ∷ before) plain txn = absurd plain.0
+pending_inserts (marks m ∷ before) plain txn = absurd plain.0
 
 -- ---- what their undo needs
 

@@ -4,16 +4,16 @@ use Rattle.std.proofs.lemmas.Bool.{cases_eq, eq-eqb, ne_eqb}
 use Rattle.rm_types.specs.declared.formats.Format.TheVariants.{One}
 use Rattle.rm_types.specs.declared.slots.Slot.{Slot}
 use Rattle.rm_types.specs.declared.slots.Slot.TheVariants.{Vacant}
-use Rattle.rm_history.specs.Acts.{Change, Entry, History, changes, undoes, enters, commits, ends, lists}
-use Rattle.rm_history.specs.Pending.{pending_of, all_pending}
+use Rattle.rm_history.specs.Acts.{Change, Entry, History, changes, undoes, enters, commits, ends, marks}
+use Rattle.rm_history.specs.Pending.{pending_of, all_pending, of_txn}
 use Rattle.rm_history.specs.Transactions.{IsFinished, HasRecord}
 use Rattle.rm_history.specs.Rules.{IsInOrder}
-use Rattle.rm_history.specs.Losers.{losers_of}
+use Rattle.rm_history.specs.Losers.{losers_of, IsAmong, AreRising}
 use Rattle.rm_history.specs.Undoing.{category_after, entry_for, undo_for}
 use Rattle.rm_history.specs.UndoBytes.{inventory_record, compensate_record, end_record, bytes_of, with_undo, undoing_bytes, ending_bytes, undo_bytes}
 use Rattle.rm_history.specs.Contents.{entry_of}
-use Rattle.rm_history.proofs.AllPending.{of_txn, of_txn-newest, pending_of-all}
-use Rattle.rm_history.proofs.Losers.{IsAmong, Rise, losers_rise, losers_have_records, losers_are_unfinished}
+use Rattle.rm_history.proofs.AllPending.{of_txn-newest, pending_of_all}
+use Rattle.rm_history.proofs.Losers.{losers_rise, losers_have_records, losers_are_unfinished}
 use Rattle.rm_restart.specs.Plain.{ArePlain}
 use Rattle.rm_restart.proofs.PlainLaws.{AreInserts, pending_inserts}
 
@@ -89,13 +89,13 @@ unfinished_pends (commits f ∷ before) plain txn (inl now) unfinished = absurd 
 unfinished_pends (commits f ∷ before) plain txn (inr earlier) unfinished =
     rw (ne_eqb f.txn txn (λ same. unfinished (inl same))) (unfinished_pends before plain.1 txn earlier (λ finished. unfinished (inr finished)))
 unfinished_pends (ends f ∷ before) plain txn has unfinished = absurd plain.0
-unfinished_pends (lists l ∷ before) plain txn has unfinished = absurd plain.0
+unfinished_pends (marks m ∷ before) plain txn has unfinished = absurd plain.0
 
 loser_pends : (history : History) → IsInOrder history → ArePlain history → (txn : ℕ) → IsAmong (losers_of history) txn → pending_of history txn ≡ [] → ⊥
 loser_pends history ordered plain txn loses = unfinished_pends history plain txn (losers_have_records history txn loses) (losers_are_unfinished history ordered txn loses)
 
 -- numbers that rise and are one are no more than one
-at_most_one : (only : ℕ) (numbers : List ℕ) → Rise numbers → ((n : ℕ) → IsAmong numbers n → n ≡ only) → ending_bytes numbers ≤ 10
+at_most_one : (only : ℕ) (numbers : List ℕ) → AreRising numbers → ((n : ℕ) → IsAmong numbers n → n ≡ only) → ending_bytes numbers ≤ 10
 at_most_one only [] rise one = omega arith
 at_most_one only (first ∷ []) rise one = omega (arith, end_bytes first)
 at_most_one only (first ∷ second ∷ rest) rise one =
@@ -112,7 +112,7 @@ pub undo_bytes-one : (history : History) → IsInOrder history → ArePlain hist
     → undo_bytes One history ≤ 48 * length (pending_of history only) + 10
 undo_bytes-one history ordered plain only others =
     let all : pending_of history only ≡ all_pending history =
-    pending_of-all history only ∙ all_of_one only (all_pending history) (λ other differs. sym (pending_of-all history other) ∙ others other differs) in
+    pending_of_all history only ∙ all_of_one only (all_pending history) (λ other differs. sym (pending_of_all history other) ∙ others other differs) in
     let loser : (n : ℕ) → IsAmong (losers_of history) n → n ≡ only = λ n loses. elim (cases_eq n only) [
       | inl same ↦ same
       | inr differs ↦ absurd (loser_pends history ordered plain n loses (others n differs))
@@ -126,6 +126,6 @@ undo_bytes-one history ordered plain only others =
 
 pub undo_bytes-none : (history : History) → IsInOrder history → ArePlain history → ((txn : ℕ) → pending_of history txn ≡ []) → undo_bytes One history ≡ 0
 undo_bytes-none history ordered plain none =
-    let all : all_pending history ≡ [] = all_of_none (all_pending history) (λ txn. sym (pending_of-all history txn) ∙ none txn) in
+    let all : all_pending history ≡ [] = all_of_none (all_pending history) (λ txn. sym (pending_of_all history txn) ∙ none txn) in
     let losers : losers_of history ≡ [] = no_numbers (losers_of history) (λ n loses. loser_pends history ordered plain n loses (none n)) in
     omega (arith, ap (undoing_bytes One history) all, ap ending_bytes losers)

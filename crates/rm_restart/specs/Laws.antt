@@ -6,32 +6,32 @@ use Rattle.rm_outside.specs.Images.{Image}
 use Rattle.rm_master.specs.Slots.{IsUnmade}
 use Rattle.rm_master.specs.Fresh.{IsFresh}
 use Rattle.rm_wal.specs.Tails.{LogValue}
-use Rattle.rm_restart.specs.Sound.{IsImageOf, IsSoundLog, IsSound, Holds}
+use Rattle.rm_restart.specs.Sound.{IsImageOf, IsSoundLog, IsPlainImage, Holds}
 use Rattle.rm_restart.specs.Opening.{Opens, NeedsUndoOf, IsDamage}
 
 -- what is damaged is not sound, and neither is what is not made
 abbrev pub DamagedIsNotSound : Type 0
-DamagedIsNotSound = (content : Image) (area : Area) (at : ℕ) → IsDamage content area at → IsSound content → ⊥
+DamagedIsNotSound = (content : Image) (area : Area) (at : ℕ) → IsDamage content area at → IsPlainImage content → ⊥
 
 abbrev pub UnmadeIsNotSound : Type 0
-UnmadeIsNotSound = (content : Image) → IsUnmade content → IsSound content → ⊥
+UnmadeIsNotSound = (content : Image) → IsUnmade content → IsPlainImage content → ⊥
 
 -- a volume that was just made is sound, and has no commits and no rows
 abbrev pub FreshIsSound : Type 0
-FreshIsSound = (pages : ℕ) (content : Image) → IsFresh pages content → (held : Holds 0 (λ rid. None) content) × (held.sound.pages ≡ pages)
+FreshIsSound = (pages : ℕ) (content : Image) → IsFresh pages content → (held : Holds 0 (λ rid. None) content) × (held.image.fields.pages ≡ pages)
 
 -- The pages and the batches that an opening read are those of the sound image.
 pub record IsReadFrom (content : Image) {told : Type 0} {limit next inserted : ℕ} {pages : List (List Slot)} {log : LogValue}
-    (sound : IsSound content) (opens : Opens told content limit pages next log inserted) : Type 0 where
-  pub batches_are : sound.batches ≡ opens.batches
-  pub pages_are : sound.pages ≡ opens.fields.pages
+    (image : IsPlainImage content) (opens : Opens told content limit pages next log inserted) : Type 0 where
+  pub batches_are : image.batches ≡ opens.batches
+  pub pages_are : image.fields.pages ≡ opens.fields.pages
   pub sound_log : IsSoundLog opens.fields.pages opens.batches
-  pub image : IsImageOf opens.fields.pages opens.batches content
+  pub image_of : IsImageOf opens.fields.pages opens.batches content
 
 -- an opening of a sound image that is told reads what the image is of
 abbrev pub OpenedIsSound : Type 0
 OpenedIsSound = (tells : Bool) (content : Image) (limit : ℕ) (pages : List (List Slot)) (next : ℕ) (log : LogValue) (inserted : ℕ)
-    (opens : Opens (IsTrue tells) content limit pages next log inserted) → IsTrue tells → (sound : IsSound content) → IsReadFrom content sound opens
+    (opens : Opens (IsTrue tells) content limit pages next log inserted) → IsTrue tells → (image : IsPlainImage content) → IsReadFrom content image opens
 
 -- what is told opens only if nothing is to be undone
 abbrev pub OpenedNeedsNoUndo : Type 0

@@ -66,24 +66,34 @@ pub record IsMisfitAt (pages : ℕ) (history : History) (at : ℕ) : Type 0 wher
   pub plain : ArePlain before
   pub misfit : IsMisfit pages before act
 
--- The place of the log at which a read went wrong: out of its grammar, no checkpoint's record, or a misfit.
-pub record IsMisfitOf (content : Image) (at : ℕ) : Type 0 where
-  pub fields : Fields
-  pub batches : List Batch
-  pub read : HasFields (content Master) fields
-  pub has_log : HasLog (content Log) batches
-  pub misfit : IsMisfitAt fields.pages (acts_of_batches batches) at
-
+-- The master names a checkpoint, which no log has yet.
 pub record NamesCheckpoint (content : Image) (at : ℕ) : Type 0 where
   pub fields : Fields
   pub read : HasFields (content Master) fields
   pub place : at ≡ fields.checkpoint
   pub some : at ≡ 0 → ⊥
 
--- what is damaged stands there
+-- It names none, and the log is damaged there first.
+pub record IsLogDamage (content : Image) (at : ℕ) : Type 0 where
+  pub fields : Fields
+  pub read : HasFields (content Master) fields
+  pub checkpoint : fields.checkpoint ≡ 0
+  pub damage : IsLogDamagedAt (content Log) at
+
+-- It names none, the log is damaged nowhere, and this is the LSN of its first record that does not fit.
+pub record IsMisfitOf (content : Image) (at : ℕ) : Type 0 where
+  pub fields : Fields
+  pub batches : List Batch
+  pub read : HasFields (content Master) fields
+  pub checkpoint : fields.checkpoint ≡ 0
+  pub has_log : HasLog (content Log) batches
+  pub misfit : IsMisfitAt fields.pages (acts_of_batches batches) at
+
+-- What an opening of a made volume reports as damaged: of all places that are, the first in this order. The master's current slot;
+-- the checkpoint that the master names; the log's bytes; the log's records.
 abbrev pub IsDamage : Image → Area → ℕ → Type 0
 IsDamage content Master at = IsMasterDamagedAt (content Master) at
-IsDamage content Log at = IsLogDamagedAt (content Log) at ⊎ (NamesCheckpoint content at ⊎ IsMisfitOf content at)
+IsDamage content Log at = NamesCheckpoint content at ⊎ (IsLogDamage content at ⊎ IsMisfitOf content at)
 IsDamage content Data at = ⊥
 IsDamage content Space at = ⊥
 IsDamage content Copy at = ⊥

@@ -1,5 +1,5 @@
 -- What each fault of an opening says.
-use Rattle.std.specs.Prelude.{◌≡◌, ℕ, ◌<◌, true, false}
+use Rattle.std.specs.Prelude.{◌≡◌, ℕ, ◌<◌, true, false, IsTrue}
 use Rattle.std.specs.Ordering.{nat_cmp}
 use Rattle.std.specs.BTreeSet.{BTreeSet, contains}
 use Rattle.rm_types.specs.declared.areas.Area.{Area}
@@ -7,7 +7,7 @@ use Rattle.rm_types.specs.declared.areas.Area.TheVariants.{Log}
 use Rattle.rm_types.specs.declared.faults.Fault.TheVariants as fault
 use Rattle.rm_types.specs.declared.faults.StoreFault.{StoreFault}
 use Rattle.rm_types.specs.declared.faults.StoreFault.TheVariants as store
-use Rattle.rm_outside.specs.Faults.{Rises}
+use Rattle.rm_outside.specs.Calls.{Facts, HasFailed, LeavesContent}
 use Rattle.rm_outside.specs.Images.{Image}
 use Rattle.rm_master.specs.declared.faults.MasterFault.{MasterFault}
 use Rattle.rm_master.specs.declared.faults.MasterFault.TheVariants as master
@@ -23,13 +23,14 @@ pub record IsMadeAndDamaged (content : Image) (area : Area) (at : ℕ) : Type 0 
   pub made : IsUnmade content → ⊥
   pub damage : IsDamage content area at
 
--- what the fault says of the content, and of the counts of faults before and after
-abbrev pub Explains : Type 0 → Image → (Area → ℕ) → (Area → ℕ) → RestartFault → Type 0
-Explains told content before after restart.NotMade = told → IsUnmade content
-Explains told content before after (restart.NeedsUndo txn) = NeedsUndoOf told content txn.0
-Explains told content before after (restart.Fault (fault.Damaged area at)) = told → IsMadeAndDamaged content area at
-Explains told content before after (restart.Fault (fault.Volume area)) = Rises (before area) (after area)
-Explains told content before after restart.NoMemory = Unit {0}
+-- What the fault says of the volume before the opening and after it. But for a fault of the volume, and where memory ran
+-- out, all areas were synced.
+abbrev pub Explains : Facts → Facts → RestartFault → Type 0
+Explains old new restart.NotMade = (IsTrue old.models_content → IsUnmade old.content) × LeavesContent new
+Explains old new (restart.NeedsUndo txn) = NeedsUndoOf (IsTrue old.models_content) old.content txn.0 × LeavesContent new
+Explains old new (restart.Fault (fault.Damaged area at)) = (IsTrue old.models_content → IsMadeAndDamaged old.content area at) × LeavesContent new
+Explains old new (restart.Fault (fault.Volume area)) = HasFailed old new area
+Explains old new restart.NoMemory = Unit {0}
 
 -- the faults of the layers below, as those of an opening
 abbrev pub of_master : MasterFault → RestartFault

@@ -2,7 +2,7 @@
 use Rattle.std.specs.Prelude.{◌≡◌, ℕ, List}
 use Rattle.std.specs.List.{AllByRecursion}
 use Rattle.rm_types.specs.declared.slots.Slot.TheVariants.{Vacant, Row}
-use Rattle.rm_history.specs.Acts.{Act, Change, History, changes, undoes, enters, commits, ends, lists}
+use Rattle.rm_history.specs.Acts.{Act, Change, History, changes, undoes, enters, commits, ends, marks}
 
 -- the change is an insert: the slot was vacant, and has a row
 pub record IsInsert (c : Change) : Type 0 where
@@ -17,7 +17,7 @@ IsPlain (undoes u) = ⊥
 IsPlain (enters e) = ⊥
 IsPlain (commits f) = Unit {0}
 IsPlain (ends f) = ⊥
-IsPlain (lists l) = ⊥
+IsPlain (marks m) = ⊥
 
 -- each record of the history is
 abbrev pub ArePlain : History → Type 0

@@ -7,16 +7,21 @@ ghost use Rattle.rm_restart.specs.Outcomes.{of_master, of_store, of_replay};
 use crate::replay::ReplayRefused;
 use rm_master::MasterFault;
 use rm_types::{Area, Fault, StoreFault, TxnId};
+use thiserror::Error;
 
 /// Why a volume was not opened.
-#[derive(Clone, Copy, Debug, PartialEq, Eq)]
+#[derive(Clone, Copy, Debug, PartialEq, Eq, Error)]
 pub enum RestartFault {
     /// The made byte is not 1.
+    #[error("the volume is not made: create it first")]
     NotMade,
     /// A transaction has a record in the log and did not commit; this is the least.
+    #[error("transaction {} has changes in the log and did not commit", .txn.0)]
     NeedsUndo { txn: TxnId },
-    /// An area failed, or what stands at that place of the area (in bytes) is not what belongs there.
+    /// An area failed, or it is damaged at that byte.
+    #[error("{0}")]
     Fault(Fault),
+    #[error("out of memory")]
     NoMemory,
 }
 

@@ -17,6 +17,3 @@ pub use laws::{
     what_is_damaged_is_not_sound, what_is_not_made_is_not_sound,
 };
 pub use opening::{Opened, Report, restart};
-
-#[cfg(test)]
-mod tests;

@@ -1,22 +1,18 @@
 //! Opening a volume.
 
-ghost use Rattle.std.specs.Prelude.{◌≡◌, ℕ, ◌+◌, ◌^◌, ◌≤◌, map, IsTrue, IfOk, OnOk, IfErr, Err};
-ghost use Rattle.rm_types.specs.declared.areas.Area.{Area as Areas};
+ghost use Rattle.std.specs.Prelude.{◌≡◌, ◌+◌, ◌^◌, ◌≤◌, map, IsTrue, IfOk, OnOk, IfErr};
 ghost use Rattle.rm_types.specs.declared.numbers.TheConstants.{MAX_LOG};
-ghost use Rattle.rm_types.specs.declared.numbers.TxnId.{TxnId as TxnIds};
-ghost use Rattle.rm_outside.specs.Faults.{Rises};
-ghost use Rattle.rm_outside.specs.Images.{Image};
-ghost use Rattle.rm_outside.specs.Reading.{OnlyReads};
+ghost use Rattle.rm_outside.specs.Calls.{facts_of, IsAllSynced, OnlyReads};
 ghost use Rattle.rm_master.specs.Fields.{IsFields};
-ghost use Rattle.rm_master.specs.Slots.{HasFields, IsUnmade};
-ghost use Rattle.rm_restart.specs.Opening.{Opens, NeedsUndoOf, IsDamage};
+ghost use Rattle.rm_master.specs.Slots.{HasFields};
+ghost use Rattle.rm_restart.specs.Opening.{Opens};
 ghost use Rattle.rm_restart.specs.Outcomes.{Explains, IsNone, IsUndo};
 ghost use Rattle.rm_model.specs.Files.{slots_of};
 
 use crate::faults::RestartFault;
 use crate::replay::{Replay, replayed};
-use rm_master::{Fields, Master, sync_areas};
-use rm_outside::Volume;
+use rm_master::{Fields, Master};
+use rm_outside::{Volume, sync_areas};
 use rm_page::Page;
 use rm_types::{Area, Fault};
 use rm_wal::Log;
@@ -42,17 +38,14 @@ pub struct Opened {
     pub report: Report,
 }
 
-// The fields of a master that names no checkpoint, behind a sync of all areas.
+// The fields of a master that names no checkpoint, after a sync of all areas.
 fn read_fields<V: Volume>(volume: &mut V) -> Result<Fields, RestartFault>
     ensures rules { IfOk result IsFields }
     ensures none { IfOk result (λ fields. fields.checkpoint ≡ 0) }
-    ensures fields { IfOk result (λ fields. IsTrue V.tells → HasFields (V.content volume.old Area.Master) fields) }
-    ensures synced { OnOk result ((c : Image) → V.may_leave volume.new c → c ≡ V.content volume.old) }
-    ensures explained { IfErr result (Explains (IsTrue V.tells) (V.content volume.old) (V.faults volume.old) (V.faults volume.new)) }
-    ensures reads { OnlyReads (V.content volume.old) (V.content volume.new) (V.may_leave volume.old) (V.may_leave volume.new)
-        (V.moment volume.old) (V.moment volume.new) (V.left_since volume.old) (V.left_since volume.new) (V.faults volume.old) (V.faults volume.new) }
-    ensures data_reads { V.data_reads volume.new ≡ V.data_reads volume.old }
-    ensures same { V.reference volume.new ≡ V.reference volume.old }
+    ensures fields { IfOk result (λ fields. IsTrue V.models_content → HasFields (V.content volume.old Area.Master) fields) }
+    ensures synced { OnOk result (IsAllSynced V.Volume volume.new) }
+    ensures cause { IfErr result (Explains (facts_of V.Volume volume.old) (facts_of V.Volume volume.new)) }
+    ensures reads { OnlyReads V.Volume Area.Log volume.old volume.new }
 {
     sync_areas(volume)?;
     let fields = Master::read(volume)?.fields;
@@ -106,15 +99,13 @@ fn read_log<V: Volume>(
     requires limit { limit ≤ MAX_LOG }
     requires rules { IsFields fields.now }
     requires none { fields.now.checkpoint ≡ 0 }
-    requires fields { IsTrue V.tells → HasFields (V.content volume.old Area.Master) fields.now }
-    ensures opened { IfOk result (λ opened. Opens (IsTrue V.tells) (V.content volume.old) limit (slots_of opened.pages.items) opened.next opened.log opened.report.records) }
+    requires fields { IsTrue V.models_content → HasFields (V.content volume.old Area.Master) fields.now }
+    requires synced { IsAllSynced V.Volume volume.old }
+    ensures opened { IfOk result (λ opened. Opens (IsTrue V.models_content) (V.content volume.old) limit (slots_of opened.pages.items) opened.next opened.log opened.report.records) }
     ensures next { IfOk result (λ opened. opened.next ≤ 2 ^ 32) }
     ensures report { IfOk result (λ opened. opened.report ≡ record { redo = 0; records = opened.report.records; applied = opened.report.records; undone = 0 }) }
-    ensures explained { IfErr result (Explains (IsTrue V.tells) (V.content volume.old) (V.faults volume.old) (V.faults volume.new)) }
-    ensures reads { OnlyReads (V.content volume.old) (V.content volume.new) (V.may_leave volume.old) (V.may_leave volume.new)
-        (V.moment volume.old) (V.moment volume.new) (V.left_since volume.old) (V.left_since volume.new) (V.faults volume.old) (V.faults volume.new) }
-    ensures data_reads { V.data_reads volume.new ≡ V.data_reads volume.old }
-    ensures same { V.reference volume.new ≡ V.reference volume.old }
+    ensures cause { IfErr result (Explains (facts_of V.Volume volume.old) (facts_of V.Volume volume.new)) }
+    ensures reads { OnlyReads V.Volume Area.Log volume.old volume.new }
 {
     let attached = Log::attach(alloc, volume, limit)?;
     let replay = replayed(alloc, fields.pages, &attached.records)?;
@@ -126,6 +117,8 @@ fn read_log<V: Volume>(
 ///
 /// # Errors
 ///
+/// But for a fault of the volume, and where memory runs out, all areas were synced.
+///
 /// - [`RestartFault::NotMade`] where the made byte is not 1.
 /// - [`Fault::Damaged`] on a volume that is made: the master's place, where it has no fields; the log's first place that
 ///   is out of its grammar; the checkpoint that the master names, since no log has one yet; or the LSN of the first
@@ -135,21 +128,12 @@ fn read_log<V: Volume>(
 /// - [`RestartFault::NoMemory`].
 pub fn restart<V: Volume>(alloc: Global, volume: &mut V, limit: u64) -> Result<Opened, RestartFault>
     requires { limit ≤ MAX_LOG }
-    ensures opened { IfOk result (λ opened. Opens (IsTrue V.tells) (V.content volume.old) limit (map (λ page. page.slots) opened.pages.items) opened.next opened.log opened.report.records) }
+    ensures opened { IfOk result (λ opened. Opens (IsTrue V.models_content) (V.content volume.old) limit (map (λ page. page.slots) opened.pages.items) opened.next opened.log opened.report.records) }
     ensures next { IfOk result (λ opened. (1 ≤ opened.next) × (opened.next ≤ 2 ^ 32)) }
     ensures report { IfOk result (λ opened. opened.report ≡ record { redo = 0; records = opened.report.records; applied = opened.report.records; undone = 0 }) }
-    ensures synced { OnOk result ((c : Image) → V.may_leave volume.new c → c ≡ V.content volume.old) }
-
-    ensures not_made { result ≡ Err RestartFault.NotMade → IsTrue V.tells → IsUnmade (V.content volume.old) }
-    ensures damaged { (area : Areas) (at : ℕ) → result ≡ Err (RestartFault.Fault (Fault.Damaged area at)) → IsTrue V.tells → IsDamage (V.content volume.old) area at }
-    ensures made { (area : Areas) (at : ℕ) → result ≡ Err (RestartFault.Fault (Fault.Damaged area at)) → IsTrue V.tells → IsUnmade (V.content volume.old) → ⊥ }
-    ensures needs_undo { (txn : TxnIds) → result ≡ Err (RestartFault.NeedsUndo txn) → NeedsUndoOf (IsTrue V.tells) (V.content volume.old) txn.0 }
-    ensures cause { (area : Areas) → result ≡ Err (RestartFault.Fault (Fault.Volume area)) → Rises (V.faults volume.old area) (V.faults volume.new area) }
-
-    ensures reads { OnlyReads (V.content volume.old) (V.content volume.new) (V.may_leave volume.old) (V.may_leave volume.new)
-        (V.moment volume.old) (V.moment volume.new) (V.left_since volume.old) (V.left_since volume.new) (V.faults volume.old) (V.faults volume.new) }
-    ensures data_reads { V.data_reads volume.new ≡ V.data_reads volume.old }
-    ensures same { V.reference volume.new ≡ V.reference volume.old }
+    ensures synced { OnOk result (IsAllSynced V.Volume volume.new) }
+    ensures cause { IfErr result (Explains (facts_of V.Volume volume.old) (facts_of V.Volume volume.new)) }
+    ensures reads { OnlyReads V.Volume Area.Log volume.old volume.new }
 {
     let fields = read_fields(volume)?;
     read_log(alloc, volume, &fields, limit)

@@ -27,6 +27,3 @@ pub use lines::{Line, MAX_BYTES, MAX_LINES, Name, Script, Target, Which};
 pub use reading::{read_plain, read_turns};
 pub use refused::ScriptRefused;
 pub use texts::{created_text, reply_text, restart_text, turn_text, unfinished_text};
-
-#[cfg(test)]
-mod tests;

@@ -175,6 +175,3 @@ fn bind(names: &mut Names, line: &Line, reply: &Reply)
         names.bind(*name, *rid);
     }
 }
-
-#[cfg(test)]
-mod tests;

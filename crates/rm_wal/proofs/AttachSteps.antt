@@ -6,38 +6,38 @@ use Rattle.rm_record.specs.declared.records.Logged.{Logged}
 use Rattle.rm_history.specs.declared.TheConstants.{BATCH_HEADER}
 use Rattle.rm_history.specs.Logs.{gate_of, body_of, IsBatch, IsDamagedAt}
 use Rattle.rm_history.specs.Acts.{History}
-use Rattle.rm_history.specs.Batched.{acts_behind, acts_of_batches}
-use Rattle.rm_wal.specs.Batches.{ReadsBatch, ReadsBatches, IsWrongBehind}
+use Rattle.rm_history.specs.Batched.{acts_after, acts_of_batches}
+use Rattle.rm_wal.specs.Batches.{ReadsBatch, ReadsBatches, IsWrongAfter}
 
 -- no batch yet
-pub reads_no_batch : (told : Type 0) (area : Bytes) → ReadsBatches told area 0 []
-reads_no_batch told area = record { batches = []; are_batches = tt; stands = λ tells. tt; gate_is = refl; history_is = refl }
+pub reads_no_batch : (modelled : Type 0) (area : Bytes) → ReadsBatches modelled area 0 []
+reads_no_batch modelled area = record { batches = []; are_batches = tt; stands = λ models. tt; gate_is = refl; history_is = refl }
 
 -- one batch more
-pub reads_next_batch : {told : Type 0} {area : Bytes} {gate next : ℕ} {old new : List Logged} → ReadsBatches told area gate old → ReadsBatch told area gate next old new → ReadsBatches told area next new
-reads_next_batch {told} {area} {gate} {next} {old} {new} before one =
+pub reads_next_batch : {modelled : Type 0} {area : Bytes} {gate next : ℕ} {old new : List Logged} → ReadsBatches modelled area gate old → ReadsBatch modelled area gate next old new → ReadsBatches modelled area next new
+reads_next_batch {modelled} {area} {gate} {next} {old} {new} before one =
     let at = before.gate_is in
     let is : IsBatch (gate_of before.batches) one.batch = subst (λ (n : ℕ). IsBatch n one.batch) at one.is in
     record {
       batches = one.batch ∷ before.batches;
       are_batches = (before.are_batches, is);
-      stands = λ tells. (
-        before.stands tells,
+      stands = λ models. (
+        before.stands models,
         is,
-        subst (λ (n : ℕ). area n ≡ 1) at (one.shown tells).0,
-        subst (λ (n : ℕ). Shows area (n + 1) (body_of one.batch)) at (one.shown tells).1,
+        subst (λ (n : ℕ). area n ≡ 1) at (one.shown models).0,
+        subst (λ (n : ℕ). Shows area (n + 1) (body_of one.batch)) at (one.shown models).1,
       );
       gate_is = omega (arith, one.next_is, at);
-      history_is = ap (λ (n : ℕ). acts_behind (acts_of_batches before.batches) (n + BATCH_HEADER) one.batch) (sym at)
-          ∙ ap (λ (h : History). acts_behind h (gate + BATCH_HEADER) one.batch) before.history_is ∙ sym one.acts_are;
+      history_is = ap (λ (n : ℕ). acts_after (acts_of_batches before.batches) (n + BATCH_HEADER) one.batch) (sym at)
+          ∙ ap (λ (h : History). acts_after h (gate + BATCH_HEADER) one.batch) before.history_is ∙ sym one.acts_are;
     }
 
--- the next gate is behind this one
-pub gates_rise : {told : Type 0} {area : Bytes} {gate next : ℕ} {old new : List Logged} → ReadsBatch told area gate next old new → (gate + 6 ≤ next) × (next ≤ MAX_LOG)
+-- the next gate is after this one
+pub gates_rise : {modelled : Type 0} {area : Bytes} {gate next : ℕ} {old new : List Logged} → ReadsBatch modelled area gate next old new → (gate + 6 ≤ next) × (next ≤ MAX_LOG)
 gates_rise one = (omega (arith, one.next_is, one.is.range.some), omega (arith, one.next_is, one.is.range.in_log))
 
--- no batch stands behind the next gate, which is open
-pub damaged_there : {told : Type 0} {area : Bytes} {gate at : ℕ} {records : List Logged} → ReadsBatches told area gate records → told → IsWrongBehind area gate at → IsDamagedAt area at
-damaged_there {area = area} {at = at} before tells wrong =
-    let there : IsWrongBehind area (gate_of before.batches) at = subst (λ (n : ℕ). IsWrongBehind area n at) before.gate_is wrong in
-    record { batches = before.batches; stands = before.stands tells; begun = there.begun; wrong = there.wrong }
+-- no batch stands after the next gate, which is open
+pub damaged_there : {modelled : Type 0} {area : Bytes} {gate at : ℕ} {records : List Logged} → ReadsBatches modelled area gate records → modelled → IsWrongAfter area gate at → IsDamagedAt area at
+damaged_there {area = area} {at = at} before models wrong =
+    let there : IsWrongAfter area (gate_of before.batches) at = subst (λ (n : ℕ). IsWrongAfter area n at) before.gate_is wrong in
+    record { batches = before.batches; stands = before.stands models; begun = there.begun; wrong = there.wrong }

@@ -1,71 +1,77 @@
 -- What a crash leaves in each of the two steps of a flush.
-use Rattle.std.proofs.Common.{◌≡◌, ℕ, ◌+◌, List, [], ◌∷◌, inl, inr, Result, Ok, Err, OnOk, refl, ap, ◌∙◌, arith}
+use Rattle.std.proofs.Common.{◌≡◌, ℕ, ◌+◌, false, List, [], ◌∷◌, inl, inr, ap, ◌∙◌, arith}
 use Rattle.rm_types.specs.declared.areas.Area.TheVariants.{Log}
-use Rattle.rm_outside.specs.Images.{Image, Shows, Torn}
-use Rattle.rm_outside.specs.Moments.{Follows, IsDurable}
-use Rattle.rm_wal.specs.Flushing.{ComesByFlush, IsFlushed}
+use Rattle.rm_outside.specs.Images.{Image, KeepsOthers, Shows, Torn}
+use Rattle.rm_outside.specs.Moments.{ComesBy, IsDurable, joined, weaker}
+use Rattle.rm_outside.specs.Calls.{Facts, Reading, Writing}
+use Rattle.rm_outside.proofs.CallLemmas.{counts_then, writes_synced, writes_weaker}
+use Rattle.rm_wal.specs.Flushing.{FlushStep, ComesByFlush, IsFlushed}
 
--- it comes by the flush, and what was written stands behind the gate
-pub record IsStaged (gate : ℕ) (written : List ℕ) (left : Image → Type 0) (c : Image) : Type 0 where
-  pub comes : ComesByFlush gate written left c
-  pub shown : Shows (c Log) (gate + 1) written
+-- the image comes by the flush, and what was written stands after the gate
+record IsStaged (gate : ℕ) (written : List ℕ) (left : Image → Type 0) (c : Image) : Type 0 where
+  comes : ComesByFlush gate written left c
+  shown : Shows (c Log) (gate + 1) written
 
-pub first_write : (gate : ℕ) (written : List ℕ) (left leaves : Image → Type 0) → Follows (Torn Log (gate + 1) written) left leaves → (c : Image) → leaves c → ComesByFlush gate written left c
-first_write gate written left leaves follows c now =
-    let from = follows.each c now in
-    record {
-      from = from.0;
-      was = from.1;
-      step = record {
-        areas = from.2.areas;
-        below = λ k lt. from.2.before k (omega arith);
-        gate_is = inl (from.2.before gate (omega arith));
-      };
+module _ {gate : ℕ} {written : List ℕ} where
+  tail_torn : (c d : Image) → Torn Log (gate + 1) written c d → FlushStep gate written c d
+  tail_torn c d torn = record {
+    others = record { each = torn.areas };
+    below = λ k lt. torn.before k (omega arith);
+    gate_is = inl (torn.before gate (omega arith));
+  }
+
+  -- the tail is written, in part or whole, after a gate that is as it was
+  pub tail_written : {a b : Facts} → Writing (Torn Log (gate + 1) written) (Torn Log (gate + 1) written) a b → Writing (FlushStep gate written) (FlushStep gate written) a b
+  tail_written writes = writes_weaker writes tail_torn tail_torn
+
+  pub others_stay : {a b : Facts} → Writing (FlushStep gate written) (FlushStep gate written) a b → Writing (KeepsOthers Log) (FlushStep gate written) a b
+  others_stay writes = writes_weaker writes (λ c d step. step.others) (λ c d step. step)
+
+  -- the gate is torn before a tail that is durable
+  gate_torn : {left half : Image → Type 0} → ((c : Image) → half c → IsStaged gate written left c) → (c : Image) → ComesBy (Torn Log gate (1 ∷ [])) half c → IsStaged gate written left c
+  gate_torn staged c (d, was, torn) =
+      let before = staged d was in
+      let shown : Shows (c Log) (gate + 1) written = record { each = λ k lt. torn.after (gate + 1 + k) (omega arith) ∙ before.shown.each k lt } in
+      let step = before.comes.2 in
+      record {
+        comes = (
+          before.comes.0,
+          before.comes.1,
+          record {
+            others = record { each = λ other apart. torn.areas other apart ∙ step.others.each other apart };
+            below = λ k lt. torn.before k lt ∙ step.below k lt;
+            gate_is = inr shown;
+          },
+        );
+        shown = shown;
+      }
+
+  -- The tail is written and synced, and then the gate is written. The bytes stand where the volume models its content.
+  module _ {models : Type 0} {a b c d : Facts} (writes : Writing (Torn Log (gate + 1) written) (Torn Log (gate + 1) written) a b) (bytes : models → Shows (b.content Log) (gate + 1) written)
+      (syncs : Reading false false b c) (durable : IsDurable Log c.content c.may_leave) (only : (x : Image) → c.may_leave x → models)
+      (opens : Writing (Torn Log gate (1 ∷ [])) (Torn Log gate (1 ∷ [])) c d) where
+    tail : Writing (FlushStep gate written) (FlushStep gate written) a c
+    tail = writes_synced (tail_written writes) syncs
+
+    staged : (x : Image) → c.may_leave x → IsStaged gate written a.may_leave x
+    staged x now = record {
+      comes = tail.crash.each x now;
+      shown = record { each = λ k lt. ap (λ (area : ℕ → ℕ). area (gate + 1 + k)) (durable.each x now) ∙ ap (λ (image : Image). image Log (gate + 1 + k)) syncs.content ∙ (bytes (only x now)).each k lt };
     }
 
-pub first_sync : (gate : ℕ) (written : List ℕ) (left leaves : Image → Type 0) (content : Image) → ((c : Image) → leaves c → ComesByFlush gate written left c) → IsDurable Log content leaves
-    → ((c : Image) → leaves c → Shows (content Log) (gate + 1) written) → (c : Image) → leaves c → IsStaged gate written left c
-first_sync gate written left leaves content comes durable shown c now = record {
-  comes = comes c now;
-  shown = record { each = λ k lt. ap (λ (area : ℕ → ℕ). area (gate + 1 + k)) (durable.each c now) ∙ (shown c now).each k lt };
-}
-
-pub second_write : (gate : ℕ) (written : List ℕ) (left half leaves : Image → Type 0) → ((c : Image) → half c → IsStaged gate written left c) → Follows (Torn Log gate (1 ∷ [])) half leaves
-    → (c : Image) → leaves c → IsStaged gate written left c
-second_write gate written left half leaves staged follows c now =
-    let from = follows.each c now in
-    let before = staged from.0 from.1 in
-    let shown : Shows (c Log) (gate + 1) written = record { each = λ k lt. from.2.after (gate + 1 + k) (omega arith) ∙ before.shown.each k lt } in
-    record {
-      comes = record {
-        from = before.comes.from;
-        was = before.comes.was;
-        step = record {
-          areas = λ other apart. from.2.areas other apart ∙ before.comes.step.areas other apart;
-          below = λ k lt. from.2.before k lt ∙ before.comes.step.below k lt;
-          gate_is = inr shown;
-        };
-      };
-      shown = shown;
+    pub gate_written : Writing (KeepsOthers Log) (FlushStep gate written) a d
+    gate_written = record {
+      content = record { each = λ other apart. opens.content.areas other apart ∙ tail.content.others.each other apart };
+      crash = record { each = λ x now. (gate_torn staged x (opens.crash.each x now)).comes };
+      time = joined tail.time (weaker opens.time (λ x comes. (gate_torn staged x comes).comes));
+      counts = counts_then tail.counts opens.counts;
     }
 
-pub second_sync : (gate : ℕ) (written : List ℕ) (left leaves : Image → Type 0) (content : Image) → ((c : Image) → leaves c → IsStaged gate written left c) → IsDurable Log content leaves
-    → ((c : Image) → leaves c → Shows (content Log) gate (1 ∷ [])) → (c : Image) → leaves c → IsFlushed gate written c
-second_sync gate written left leaves content staged durable shown c now =
-    let here : gate ≡ gate + 0 = omega arith in
-    record {
-      opened = ap (λ (area : ℕ → ℕ). area gate) (durable.each c now) ∙ ap (content Log) here ∙ (shown c now).each 0 (omega arith);
-      shown = (staged c now).shown;
-    }
-
--- before the first call
-pub not_begun : (gate : ℕ) (written : List ℕ) (left : Image → Type 0) (c : Image) → left c → ComesByFlush gate written left c
-not_begun gate written left c was = record {
-  from = c;
-  was = was;
-  step = record { areas = λ other apart. refl; below = λ k lt. refl; gate_is = inl refl };
-}
-
-pub map_ok : {T E P Q : Type 0} (outcome : Result T E) → (P → Q) → OnOk outcome P → OnOk outcome Q
-map_ok (Ok value) to holds = to holds
-map_ok (Err error) to holds = tt
+    -- and synced
+    module _ {e : Facts} (last : Reading false false d e) where
+      pub gate_opened : (models → Shows (d.content Log) gate (1 ∷ [])) → ((x : Image) → e.may_leave x → models) → IsDurable Log e.content e.may_leave
+          → (x : Image) → e.may_leave x → IsFlushed gate written x
+      gate_opened byte modelled synced x now =
+          let here : gate ≡ gate + 0 = omega arith in
+          let opened = ap (λ (area : ℕ → ℕ). area gate) (synced.each x now) ∙ ap (λ (image : Image). image Log gate) last.content ∙ ap (d.content Log) here ∙ (byte (modelled x now)).each 0 (omega arith) in
+          record { opened = opened; shown = (gate_torn staged x (opens.crash.each x (last.crash.each x now))).shown }

@@ -7,11 +7,11 @@ use Rattle.rm_history.specs.Acts.{acts_of}
 use Rattle.rm_history.specs.Batched.{acts_of_batches}
 use Rattle.rm_wal.specs.Tails.{LogValue}
 
--- The log in memory stands behind the batches of the area, which it tells if told, and the records are
+-- The log in memory comes after the batches of the area, if its content is modelled, and the records are
 -- those of the batches, the oldest first.
-pub record Attaches (told : Type 0) (area : Bytes) (limit : ℕ) (log : LogValue) (records : List Logged) : Type 0 where
+pub record Attaches (modelled : Type 0) (area : Bytes) (limit : ℕ) (log : LogValue) (records : List Logged) : Type 0 where
   pub batches : List Batch
   pub are_batches : AreBatches batches
-  pub has_log : told → HasLog area batches
+  pub has_log : modelled → HasLog area batches
   pub log_is : log ≡ record { batch = gate_of batches; tail = []; limit = limit }
   pub history_is : acts_of_batches batches ≡ acts_of records

@@ -6,7 +6,7 @@ use Rattle.rm_record.specs.Records.{spelling, IsRecord}
 use Rattle.rm_history.specs.declared.TheConstants.{BATCH_HEADER}
 use Rattle.rm_wal.specs.Tails.{LogValue}
 
--- each record that stands at that offset of the area has so many bytes at most
+-- each record that stands at that offset of the area has at most `most` bytes
 pub record AreWithin (area : Bytes) (at most : ℕ) : Type 0 where
   pub each : (next : LogRecord) → IsRecord next → Shows area at (spelling next) → length (spelling next) ≤ most
 
@@ -16,7 +16,7 @@ pub record HasNoneAt (area : Bytes) (at : ℕ) : Type 0 where
 
 -- the record stands in the tail, at that offset of the log
 pub record StandsInTail (log : LogValue) (at : ℕ) (what : LogRecord) : Type 0 where
-  pub behind : log.batch + BATCH_HEADER ≤ at
+  pub after : log.batch + BATCH_HEADER ≤ at
   pub rest : List ℕ
   pub cut : drop (at - (log.batch + BATCH_HEADER)) log.tail ≡ spelling what ++ rest
 

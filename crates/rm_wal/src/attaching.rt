@@ -3,8 +3,7 @@
 ghost use Rattle.std.specs.Prelude.{◌≡◌, ℕ, ◌≤◌, IsTrue, IfOk, Err};
 ghost use Rattle.rm_types.specs.declared.areas.Area.{Area as Areas};
 ghost use Rattle.rm_types.specs.declared.numbers.TheConstants.{MAX_LOG};
-ghost use Rattle.rm_outside.specs.Faults.{Rises};
-ghost use Rattle.rm_outside.specs.Reading.{OnlyReads};
+ghost use Rattle.rm_outside.specs.Calls.{OnlyReads, StoreFailsIn};
 ghost use Rattle.rm_history.specs.Logs.{IsDamagedAt};
 ghost use Rattle.rm_wal.specs.Attaching.{Attaches};
 ghost use Rattle.rm_wal.specs.Batches.{ReadsAllBatches};
@@ -25,14 +24,11 @@ pub struct Attached {
 
 // The records of all batches before the first gate that is closed, and that gate.
 fn read_batches<V: Volume>(alloc: Global, volume: &mut V) -> Result<(Vec<Logged>, u64), StoreFault>
-    ensures found { IfOk result (λ found. ReadsAllBatches (IsTrue V.tells) (V.content volume.old Area.Log) found.1 found.0.items) }
+    ensures found { IfOk result (λ found. ReadsAllBatches (IsTrue V.models_content) (V.content volume.old Area.Log) found.1 found.0.items) }
     ensures bound { IfOk result (λ found. found.1 ≤ MAX_LOG) }
-    ensures damaged { (area : Areas) (at : ℕ) → result ≡ Err (StoreFault.Fault (Fault.Damaged area at)) → (area ≡ Area.Log) × (IsTrue V.tells → IsDamagedAt (V.content volume.old Area.Log) at) }
-    ensures cause { (area : Areas) → result ≡ Err (StoreFault.Fault (Fault.Volume area)) → (area ≡ Area.Log) × Rises (V.faults volume.old Area.Log) (V.faults volume.new Area.Log) }
-    ensures reads { OnlyReads (V.content volume.old) (V.content volume.new) (V.may_leave volume.old) (V.may_leave volume.new)
-        (V.moment volume.old) (V.moment volume.new) (V.left_since volume.old) (V.left_since volume.new) (V.faults volume.old) (V.faults volume.new) }
-    ensures data_reads { V.data_reads volume.new ≡ V.data_reads volume.old }
-    ensures same { V.reference volume.new ≡ V.reference volume.old }
+    ensures damaged { (area : Areas) (at : ℕ) → result ≡ Err (StoreFault.Fault (Fault.Damaged area at)) → (area ≡ Area.Log) × (IsTrue V.models_content → IsDamagedAt (V.content volume.old Area.Log) at) }
+    ensures cause { StoreFailsIn V.Volume Area.Log volume.old volume.new result }
+    ensures reads { OnlyReads V.Volume Area.Log volume.old volume.new }
 {
     let mut records = Vec::new(alloc);
     let mut gate = 0;
@@ -43,12 +39,12 @@ fn read_batches<V: Volume>(alloc: Global, volume: &mut V) -> Result<(Vec<Logged>
 }
 
 impl Log {
-    /// Reads the batches of area Log up to the first gate that is closed: the log that stands behind them with an
+    /// Reads the batches of area Log up to the first gate that is closed: the log that comes after them with an
     /// empty tail, which grows up to `limit` (at most 2^48), and their records. It writes nothing.
     ///
     /// # Errors
     ///
-    /// [`Fault::Damaged`] with area Log: behind an open gate, the offset of a length that is out of range, or else of the
+    /// [`Fault::Damaged`] with area Log: after an open gate, the offset of a length that is out of range, or else of the
     /// first place within the length at which no record stands. [`Fault::Volume`] with area Log, where it failed.
     /// [`StoreFault::NoMemory`].
     pub fn attach<V: Volume>(
@@ -57,13 +53,10 @@ impl Log {
         limit: u64,
     ) -> Result<Attached, StoreFault>
         requires { limit ≤ MAX_LOG }
-        ensures attached { IfOk result (λ attached. Attaches (IsTrue V.tells) (V.content volume.old Area.Log) limit attached.log attached.records.items) }
-        ensures damaged { (area : Areas) (at : ℕ) → result ≡ Err (StoreFault.Fault (Fault.Damaged area at)) → (area ≡ Area.Log) × (IsTrue V.tells → IsDamagedAt (V.content volume.old Area.Log) at) }
-        ensures cause { (area : Areas) → result ≡ Err (StoreFault.Fault (Fault.Volume area)) → (area ≡ Area.Log) × Rises (V.faults volume.old Area.Log) (V.faults volume.new Area.Log) }
-        ensures reads { OnlyReads (V.content volume.old) (V.content volume.new) (V.may_leave volume.old) (V.may_leave volume.new)
-            (V.moment volume.old) (V.moment volume.new) (V.left_since volume.old) (V.left_since volume.new) (V.faults volume.old) (V.faults volume.new) }
-        ensures data_reads { V.data_reads volume.new ≡ V.data_reads volume.old }
-        ensures same { V.reference volume.new ≡ V.reference volume.old }
+        ensures attached { IfOk result (λ attached. Attaches (IsTrue V.models_content) (V.content volume.old Area.Log) limit attached.log attached.records.items) }
+        ensures damaged { (area : Areas) (at : ℕ) → result ≡ Err (StoreFault.Fault (Fault.Damaged area at)) → (area ≡ Area.Log) × (IsTrue V.models_content → IsDamagedAt (V.content volume.old Area.Log) at) }
+        ensures cause { StoreFailsIn V.Volume Area.Log volume.old volume.new result }
+        ensures reads { OnlyReads V.Volume Area.Log volume.old volume.new }
     {
         let (records, gate) = read_batches(alloc, volume)?;
         let log = Log::new(alloc, gate, limit)?;

@@ -1,31 +1,27 @@
 //! The four calls of a flush.
 
 ghost use Rattle.std.specs.Prelude.{◌≡◌, ℕ, ◌+◌, ◌^◌, ◌≤◌, length, OnOk};
-ghost use Rattle.rm_types.specs.declared.areas.Area.{Area as Areas};
 ghost use Rattle.rm_outside.specs.Images.{Image};
-ghost use Rattle.rm_outside.specs.Faults.{HasCause};
-ghost use Rattle.rm_outside.specs.Moments.{IsDurable, LeavesOnly};
-ghost use Rattle.rm_wal.specs.Flushing.{ComesByFlush, IsFlushed};
+ghost use Rattle.rm_outside.specs.Calls.{FailsIn, IsSynced, WritesIn};
+ghost use Rattle.rm_wal.specs.Flushing.{FlushStep, IsFlushed};
 
-use rm_outside::{Failed, Volume};
-use rm_types::Area;
+use rm_outside::{Volume, sync_area, write_area};
+use rm_types::{Area, Fault};
 
-// Writes the bytes behind the gate, syncs, opens the gate, and syncs.
-pub(crate) fn write_batch<V: Volume>(volume: &mut V, gate: u64, bytes: &[u8]) -> Result<(), Failed>
+/// The byte of a gate that is open.
+pub(crate) const OPEN: u8 = 1;
+
+// Writes the bytes after the gate, syncs, opens the gate, and syncs.
+pub(crate) fn write_batch<V: Volume>(volume: &mut V, gate: u64, bytes: &[u8]) -> Result<(), Fault>
     requires range { gate + (1 + length bytes.now) ≤ 2 ^ 49 }
-    requires durable { IsDurable Area.Log (V.content volume.old) (V.may_leave volume.old) }
-    ensures flushed { OnOk result ((c : Image) → V.may_leave volume.new c → IsFlushed gate bytes.now c × ComesByFlush gate bytes.now (V.may_leave volume.old) c) }
-    ensures durable { OnOk result (IsDurable Area.Log (V.content volume.new) (V.may_leave volume.new)) }
-    ensures any_moment { LeavesOnly (V.moment volume.old) (V.moment volume.new) (V.left_since volume.old) (V.left_since volume.new)
-        (ComesByFlush gate bytes.now (V.may_leave volume.old)) }
-    ensures counts { (area : Areas) → V.faults volume.old area ≤ V.faults volume.new area }
-    ensures cause { HasCause (V.faults volume.old Area.Log) (V.faults volume.new Area.Log) result }
-    ensures data_reads { V.data_reads volume.new ≡ V.data_reads volume.old }
-    ensures log_reads { V.log_reads volume.new ≡ V.log_reads volume.old }
-    ensures same { V.reference volume.new ≡ V.reference volume.old }
+    requires synced { IsSynced V.Volume Area.Log volume.old }
+    ensures flushed { OnOk result ((c : Image) → V.may_leave volume.new c → IsFlushed gate bytes.now c) }
+    ensures synced { OnOk result (IsSynced V.Volume Area.Log volume.new) }
+    ensures writes { WritesIn V.Volume Area.Log (FlushStep gate bytes.now) volume.old volume.new }
+    ensures cause { FailsIn V.Volume Area.Log volume.old volume.new result }
 {
-    volume.write(Area::Log, gate + 1, bytes)?;
-    volume.sync(Area::Log)?;
-    volume.write(Area::Log, gate, &[1])?;
-    volume.sync(Area::Log)
+    write_area(volume, Area::Log, gate + 1, bytes)?;
+    sync_area(volume, Area::Log)?;
+    write_area(volume, Area::Log, gate, &[OPEN])?;
+    sync_area(volume, Area::Log)
 }

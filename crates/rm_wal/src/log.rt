@@ -1,18 +1,14 @@
 //! The log in memory: its tail, and how it is made durable.
 
-ghost use Rattle.std.specs.Prelude.{◌≡◌, ℕ, ◌+◌, ◌<◌, ◌≤◌, List, [], ◌∷◌, ◌++◌, length, drop, vec_len, vec_capacity, IfOk, IsOk, OnOk, OnErr, Err, MatchResult};
+ghost use Rattle.std.specs.Prelude.{◌≡◌, ◌+◌, ◌<◌, ◌≤◌, [], ◌∷◌, ◌++◌, length, drop, vec_len, vec_capacity, IfOk, IsOk, OnOk, OnErr, MatchResult};
 ghost use Rattle.std.specs.Int.{w32, to_be_bytes};
-ghost use Rattle.rm_types.specs.declared.areas.Area.{Area as Areas};
-ghost use Rattle.rm_types.specs.declared.faults.Fault.{Fault as Faults};
 ghost use Rattle.rm_types.specs.declared.numbers.TheConstants.{MAX_LOG};
-ghost use Rattle.rm_outside.specs.Images.{Image};
-ghost use Rattle.rm_outside.specs.Faults.{Rises};
-ghost use Rattle.rm_outside.specs.Moments.{IsDurable, LeavesOnly};
+ghost use Rattle.rm_outside.specs.Calls.{FailsIn, IsSynced};
 ghost use Rattle.rm_record.specs.Records.{spelling, IsRecord};
 ghost use Rattle.rm_history.specs.declared.TheConstants.{BATCH_HEADER, MAX_BATCH};
-ghost use Rattle.rm_history.specs.Logs.{Batch, IsInRange, HasLog};
+ghost use Rattle.rm_history.specs.Logs.{IsInRange};
 ghost use Rattle.rm_wal.specs.Tails.{end_of};
-ghost use Rattle.rm_wal.specs.Flushing.{ComesByFlush, IsFlushed, Tails, HasEither, written_tail};
+ghost use Rattle.rm_wal.specs.Flushing.{Flushes, HasFlushed, written_tail};
 
 use crate::flushing::write_batch;
 use rm_history::{BATCH_HEADER, MAX_BATCH};
@@ -21,6 +17,7 @@ use rm_record::{LogRecord, MAX_RECORD};
 use rm_types::{Area, Fault, Lsn, NoMemory};
 use std::alloc::Global;
 use std::marker::Model;
+use thiserror::Error;
 
 /// A tail that is longer, in bytes, is flushed before a record is appended. So a batch has room for any record.
 pub const LONG_TAIL: u64 = 1_048_576;
@@ -30,13 +27,15 @@ const _: () = prove!(LONG_TAIL + MAX_RECORD as u64 <= MAX_BATCH);
 /// How many bytes of a batch's header stand in the buffer before its records: the length.
 const LENGTH_BYTES: usize = 4;
 
-/// The log has no room: `end` is the offset that the next record would have.
-#[derive(Clone, Copy, Debug, PartialEq, Eq)]
+/// The log has no room.
+#[derive(Clone, Copy, Debug, PartialEq, Eq, Error)]
+#[error("the log is full: the next record would stand at byte {end}")]
 pub struct LogFull {
+    /// The offset that the next record would have, in bytes.
     pub end: u64,
 }
 
-/// The log in memory, behind the batches of the area that are durable.
+/// The log in memory: what comes after the batches of the area that are durable.
 #[derive(Debug, Drop)]
 pub struct Log {
     // Four bytes for the length of the records, and the records; with room for one byte more.
@@ -71,7 +70,7 @@ fn put_length(bytes: &mut [u8], records: u32)
     bytes[3] = d;
 }
 
-// Puts the length of the records before them, and a closed gate behind them.
+// Puts the length of the records before them, and a closed gate after them.
 fn close(buffer: &mut Vec<u8>)
     requires from { 4 ≤ vec_len buffer.old }
     requires short { vec_len buffer.old ≤ 4 + MAX_BATCH }
@@ -86,7 +85,7 @@ fn close(buffer: &mut Vec<u8>)
 }
 
 impl Log {
-    /// A log with an empty tail behind the gate at `batch`, which grows up to `limit`; both are at most 2^48.
+    /// A log with an empty tail after the gate at `batch`, which grows up to `limit`; both are at most 2^48.
     ///
     /// # Errors
     ///
@@ -159,7 +158,7 @@ impl Log {
         Ok(())
     }
 
-    /// Appends a record, which is not durable yet, and answers its LSN.
+    /// Appends a record, which is not durable yet, and gives its LSN.
     ///
     /// # Errors
     ///
@@ -179,50 +178,30 @@ impl Log {
         Ok(lsn)
     }
 
-    /// Makes the tail durable: writes it behind its closed gate with a closed gate behind it, syncs, opens
+    /// Makes the tail durable: writes it after its closed gate with a closed gate after it, syncs, opens
     /// the gate, and syncs (docs/FORMATS.md, "Log"). An empty tail makes no call of the volume. It takes no memory.
     ///
     /// # Errors
     ///
-    /// [`Fault::Volume`] with area Log, where it failed. The log then answers for nothing, and is to be
-    /// attached again.
+    /// [`Fault::Volume`] with area Log, where it failed. Nothing is known of the log then: attach it again.
     pub fn flush<V: Volume>(&mut self, volume: &mut V) -> Result<(), Fault>
-        requires { IsDurable Area.Log (V.content volume.old) (V.may_leave volume.old) }
-
+        requires { IsSynced V.Volume Area.Log volume.old }
         ensures empty { self.old.tail ≡ [] → IsOk result × (self.new ≡ self.old) × (volume.new ≡ volume.old) }
         ensures ok { OnOk result (0 < length self.old.tail → self.new ≡ record self.old { batch = end_of self.old; tail = [] }) }
-        ensures flushed { OnOk result (0 < length self.old.tail → (c : Image) → V.may_leave volume.new c
-            → IsFlushed self.old.batch (written_tail self.old.tail) c × ComesByFlush self.old.batch (written_tail self.old.tail) (V.may_leave volume.old) c) }
-        ensures durable { OnOk result (IsDurable Area.Log (V.content volume.new) (V.may_leave volume.new)) }
-
-        // A crash at any moment of the call leaves the gate as it was, or the whole tail behind it.
-        ensures any_moment { LeavesOnly (V.moment volume.old) (V.moment volume.new) (V.left_since volume.old) (V.left_since volume.new)
-            (ComesByFlush self.old.batch (written_tail self.old.tail) (V.may_leave volume.old)) }
-
-        // So the log of each image is the old one, or that with the tail as its newest batch; and at last the latter.
+        ensures done { OnOk result (HasFlushed V.Volume self.old volume.old volume.new) }
+        ensures steps { Flushes V.Volume self.old volume.old volume.new }
         ensures range { 0 < length self.old.tail → IsInRange self.old.batch (length self.old.tail) }
-        ensures logs { (batches : List Batch) (batch : Batch) → Tails self.old.batch self.old.tail (V.may_leave volume.old) batches batch
-            → LeavesOnly (V.moment volume.old) (V.moment volume.new) (V.left_since volume.old) (V.left_since volume.new) (HasEither batches batch) }
-        ensures logs_ok { OnOk result ((batches : List Batch) (batch : Batch) → Tails self.old.batch self.old.tail (V.may_leave volume.old) batches batch
-            → 0 < length self.old.tail → (c : Image) → V.may_leave volume.new c → HasLog (c Area.Log) (batch ∷ batches)) }
-
-        ensures cause { (fault : Faults) → result ≡ Err fault → (fault ≡ Fault.Volume Area.Log) × Rises (V.faults volume.old Area.Log) (V.faults volume.new Area.Log) }
-        ensures counts { (area : Areas) → V.faults volume.old area ≤ V.faults volume.new area }
-        ensures data_reads { V.data_reads volume.new ≡ V.data_reads volume.old }
-        ensures log_reads { V.log_reads volume.new ≡ V.log_reads volume.old }
-        ensures same { V.reference volume.new ≡ V.reference volume.old }
+        ensures cause { FailsIn V.Volume Area.Log volume.old volume.new result }
     {
         let records = self.buffer.len() - LENGTH_BYTES;
         if records == 0 {
             return Ok(());
         }
         close(&mut self.buffer);
-        if write_batch(volume, self.batch, &self.buffer).is_err() {
-            self.buffer.truncate(LENGTH_BYTES);
-            return Err(Fault::Volume { area: Area::Log });
-        }
-        self.batch += BATCH_HEADER + records as u64;
+        let written = write_batch(volume, self.batch, &self.buffer);
         self.buffer.truncate(LENGTH_BYTES);
+        written?;
+        self.batch += BATCH_HEADER + records as u64;
         Ok(())
     }
 }

@@ -3,9 +3,7 @@
 ghost use Rattle.std.specs.Prelude.{◌≡◌, ℕ, ◌<◌, ◌≤◌, IsTrue, vec_len, IfOk, Err};
 ghost use Rattle.rm_types.specs.declared.areas.Area.{Area as Areas};
 ghost use Rattle.rm_types.specs.declared.numbers.TheConstants.{MAX_LOG};
-ghost use Rattle.rm_outside.specs.Faults.{Rises};
-ghost use Rattle.rm_outside.specs.Images.{Shows};
-ghost use Rattle.rm_outside.specs.Reading.{OnlyReads};
+ghost use Rattle.rm_outside.specs.Calls.{HasBytes, OnlyReads, StoreFailsIn};
 ghost use Rattle.rm_record.specs.Records.{IsRecord, spelling};
 ghost use Rattle.rm_wal.specs.Lookups.{AreWithin, HasNoneAt, StandsInTail, HasNoneInTail};
 ghost use Rattle.rm_wal.specs.Tails.{end_of};
@@ -23,14 +21,11 @@ use std::alloc::Global;
 // by one call, and a short one.
 fn read_enough<V: Volume>(alloc: Global, volume: &mut V, at: u64) -> Result<Vec<u8>, StoreFault>
     requires { at ≤ MAX_LOG }
-    ensures bytes { IfOk result (λ bytes. IsTrue V.tells → Shows (V.content volume.old Area.Log) at bytes.items) }
-    ensures enough { IfOk result (λ bytes. IsTrue V.tells → AreWithin (V.content volume.old Area.Log) at (vec_len bytes)) }
+    ensures bytes { IfOk result (λ bytes. HasBytes V.Volume volume.old Area.Log at bytes.items) }
+    ensures enough { IfOk result (λ bytes. IsTrue V.models_content → AreWithin (V.content volume.old Area.Log) at (vec_len bytes)) }
     ensures damaged { (area : Areas) (place : ℕ) → result ≡ Err (StoreFault.Fault (Fault.Damaged area place)) → ⊥ }
-    ensures cause { (area : Areas) → result ≡ Err (StoreFault.Fault (Fault.Volume area)) → (area ≡ Area.Log) × Rises (V.faults volume.old Area.Log) (V.faults volume.new Area.Log) }
-    ensures reads { OnlyReads (V.content volume.old) (V.content volume.new) (V.may_leave volume.old) (V.may_leave volume.new)
-        (V.moment volume.old) (V.moment volume.new) (V.left_since volume.old) (V.left_since volume.new) (V.faults volume.old) (V.faults volume.new) }
-    ensures data_reads { V.data_reads volume.new ≡ V.data_reads volume.old }
-    ensures same { V.reference volume.new ≡ V.reference volume.old }
+    ensures cause { StoreFailsIn V.Volume Area.Log volume.old volume.new result }
+    ensures reads { OnlyReads V.Volume Area.Log volume.old volume.new }
 {
     let front = read_bytes(alloc, volume, at, MAX_CHANGE)?;
     let most = LogRecord::most_bytes(front[0]);
@@ -44,13 +39,10 @@ fn read_enough<V: Volume>(alloc: Global, volume: &mut V, at: u64) -> Result<Vec<
 fn read_at<V: Volume>(alloc: Global, volume: &mut V, at: u64) -> Result<LogRecord, StoreFault>
     requires { at ≤ MAX_LOG }
     ensures is_record { IfOk result (λ found. IsRecord found) }
-    ensures found { IfOk result (λ found. IsTrue V.tells → Shows (V.content volume.old Area.Log) at (spelling found)) }
-    ensures damaged { (area : Areas) (place : ℕ) → result ≡ Err (StoreFault.Fault (Fault.Damaged area place)) → (area ≡ Area.Log) × (place ≡ at) × (IsTrue V.tells → HasNoneAt (V.content volume.old Area.Log) at) }
-    ensures cause { (area : Areas) → result ≡ Err (StoreFault.Fault (Fault.Volume area)) → (area ≡ Area.Log) × Rises (V.faults volume.old Area.Log) (V.faults volume.new Area.Log) }
-    ensures reads { OnlyReads (V.content volume.old) (V.content volume.new) (V.may_leave volume.old) (V.may_leave volume.new)
-        (V.moment volume.old) (V.moment volume.new) (V.left_since volume.old) (V.left_since volume.new) (V.faults volume.old) (V.faults volume.new) }
-    ensures data_reads { V.data_reads volume.new ≡ V.data_reads volume.old }
-    ensures same { V.reference volume.new ≡ V.reference volume.old }
+    ensures found { IfOk result (λ found. HasBytes V.Volume volume.old Area.Log at (spelling found)) }
+    ensures damaged { (area : Areas) (place : ℕ) → result ≡ Err (StoreFault.Fault (Fault.Damaged area place)) → (area ≡ Area.Log) × (place ≡ at) × (IsTrue V.models_content → HasNoneAt (V.content volume.old Area.Log) at) }
+    ensures cause { StoreFailsIn V.Volume Area.Log volume.old volume.new result }
+    ensures reads { OnlyReads V.Volume Area.Log volume.old volume.new }
 {
     let bytes = read_enough(alloc, volume, at)?;
     let (found, _) = decode_at(alloc, at, &bytes)?;
@@ -91,16 +83,13 @@ impl Log {
     ) -> Result<LogRecord, StoreFault>
         requires { lsn.0 < end_of self.now }
         ensures is_record { IfOk result (λ found. IsRecord found) }
-        ensures durable { IfOk result (λ found. lsn.0 < self.now.batch → IsTrue V.tells → Shows (V.content volume.old Area.Log) lsn.0 (spelling found)) }
+        ensures durable { IfOk result (λ found. lsn.0 < self.now.batch → HasBytes V.Volume volume.old Area.Log lsn.0 (spelling found)) }
         ensures in_tail { IfOk result (λ found. self.now.batch ≤ lsn.0 → StandsInTail self.now lsn.0 found) }
         ensures damaged { (area : Areas) (at : ℕ) → result ≡ Err (StoreFault.Fault (Fault.Damaged area at)) → (area ≡ Area.Log) × (at ≡ lsn.0)
-            × (lsn.0 < self.now.batch → IsTrue V.tells → HasNoneAt (V.content volume.old Area.Log) lsn.0) × (self.now.batch ≤ lsn.0 → HasNoneInTail self.now lsn.0) }
-        ensures cause { (area : Areas) → result ≡ Err (StoreFault.Fault (Fault.Volume area)) → (area ≡ Area.Log) × Rises (V.faults volume.old Area.Log) (V.faults volume.new Area.Log) }
+            × (lsn.0 < self.now.batch → IsTrue V.models_content → HasNoneAt (V.content volume.old Area.Log) lsn.0) × (self.now.batch ≤ lsn.0 → HasNoneInTail self.now lsn.0) }
+        ensures cause { StoreFailsIn V.Volume Area.Log volume.old volume.new result }
         ensures unread { self.now.batch ≤ lsn.0 → volume.new ≡ volume.old }
-        ensures reads { OnlyReads (V.content volume.old) (V.content volume.new) (V.may_leave volume.old) (V.may_leave volume.new)
-            (V.moment volume.old) (V.moment volume.new) (V.left_since volume.old) (V.left_since volume.new) (V.faults volume.old) (V.faults volume.new) }
-        ensures data_reads { V.data_reads volume.new ≡ V.data_reads volume.old }
-        ensures same { V.reference volume.new ≡ V.reference volume.old }
+        ensures reads { OnlyReads V.Volume Area.Log volume.old volume.new }
     {
         if lsn.0 < self.batch() {
             return read_at(alloc, volume, lsn.0);

@@ -10,7 +10,7 @@ use rm_record::{DecodeRefused, LogRecord, Logged};
 use rm_types::{Area, Fault, Lsn, StoreFault};
 use std::alloc::Global;
 
-/// What stands at that offset of the log is not what belongs there.
+/// The log is damaged at that offset.
 pub(crate) fn damaged(at: u64) -> StoreFault
     ensures { result ≡ StoreFault.Fault (Fault.Damaged Area.Log at) }
 {
@@ -38,7 +38,7 @@ pub(crate) fn decode_at(
     }
 }
 
-// Appends the record that the bytes begin with, and answers its length.
+// Appends the record that the bytes begin with, and gives its length.
 fn read_record(
     alloc: Global,
     at: u64,

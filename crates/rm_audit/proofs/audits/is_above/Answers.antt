@@ -7,5 +7,7 @@ use Rattle.rm_audit.proofs.audits.is_above.Goals as goal
 pub returns-in-Some : goal.returns-in-Some
 returns-in-Some c =
     let at = c.in-Some.ensures.item in
-    let newest : newest_lsn (acts_of c.args.log.now) ≡ c.in-Some.last.now.lsn.0 = newest_is c.args.log.now c.in-Some.last.now at.3.0 at.1 in
-    (λ less. omega (arith, newest, ltb-true c.in-Some.last.now.lsn.0 c.args.lsn.0 less), λ above. lt-ltb c.in-Some.last.now.lsn.0 c.args.lsn.0 (omega (arith, newest, above)))
+    let newest : newest_lsn (acts_of c.args.log.now) ≡ c.in-Some.last.now.lsn.0 = newest_is c.args.log.now c.in-Some.last.now at.3.0 at.1 in (
+      λ less. omega (arith, newest, ltb-true c.in-Some.last.now.lsn.0 c.args.lsn.0 less),
+      λ above. lt-ltb c.in-Some.last.now.lsn.0 c.args.lsn.0 (omega (arith, newest, above)),
+    )

@@ -5,4 +5,5 @@ use Rattle.rm_audit.specs.Parts.{IsNamed}
 use Rattle.rm_audit.proofs.listings.forgotten.Given as goal
 
 abbrev pub invariant-loop-logged : goal.invariant-loop-logged
-invariant-loop-logged l = (txn : ℕ) → (txn ≡ 0 → ⊥) → HasRecord (acts_of (take l.logged-index l.log)) txn → (IsFinished (acts_of l.log) txn → ⊥) → IsNamed l.losers txn
+invariant-loop-logged l =
+    (txn : ℕ) → (txn ≡ 0 → ⊥) → HasRecord (acts_of (take l.logged-index l.log)) txn → (IsFinished (acts_of l.log) txn → ⊥) → IsNamed l.losers txn

@@ -7,4 +7,5 @@ returns-then-place-number c = (_, in_at c.args.places.now c.loop-place.place-ind
 
 pub loop-place-preserved : goal.loop-place-preserved
 loop-place-preserved c =
-    each_more (λ place. place.number ≡ c.args.number → ⊥) c.args.places.now c.loop-place.place-index (record { number = 0; at = 0 }) (search rules) c.loop-place.invariant c.if-place-number.false
+    each_more (λ place. place.number ≡ c.args.number → ⊥) c.args.places.now c.loop-place.place-index (record { number = 0; at = 0 })
+    (search rules) c.loop-place.invariant c.if-place-number.false

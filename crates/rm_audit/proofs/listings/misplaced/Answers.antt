@@ -9,4 +9,5 @@ returns-then-branch c = (in_at c.args.losers.now c.loop-place.place-index (recor
 
 pub loop-place-preserved : goal.loop-place-preserved
 loop-place-preserved c =
-    each_more (λ place. place.at ≡ last_of (pending_of (acts_of c.args.log.now) place.number)) c.args.losers.now c.loop-place.place-index (record { number = 0; at = 0 }) (search rules) c.loop-place.invariant (search rules)
+    each_more (λ place. place.at ≡ last_of (pending_of (acts_of c.args.log.now) place.number)) c.args.losers.now c.loop-place.place-index
+    (record { number = 0; at = 0 }) (search rules) c.loop-place.invariant (search rules)

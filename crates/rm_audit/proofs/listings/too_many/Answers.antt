@@ -9,4 +9,6 @@ returns-then-not-is_loser c = (in_at c.args.losers.now c.loop-place.place-index 
 
 pub loop-place-preserved : goal.loop-place-preserved
 loop-place-preserved c =
-    each_more (λ place. HasRecord (acts_of c.args.log.now) place.number × (IsFinished (acts_of c.args.log.now) place.number → ⊥)) c.args.losers.now c.loop-place.place-index (record { number = 0; at = 0 }) (search rules) c.loop-place.invariant (search rules)
+    each_more (λ place. HasRecord (acts_of c.args.log.now) place.number
+    × (IsFinished (acts_of c.args.log.now) place.number → ⊥)) c.args.losers.now c.loop-place.place-index (record { number = 0; at = 0 })
+    (search rules) c.loop-place.invariant (search rules)

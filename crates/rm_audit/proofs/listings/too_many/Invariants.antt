@@ -6,4 +6,6 @@ use Rattle.rm_history.specs.Rules.{IsIn}
 use Rattle.rm_audit.proofs.listings.too_many.Given as goal
 
 abbrev pub invariant-loop-place : goal.invariant-loop-place
-invariant-loop-place l = (place : Place) → IsIn (take l.place-index l.losers) place → HasRecord (acts_of l.log) place.number × (IsFinished (acts_of l.log) place.number → ⊥)
+invariant-loop-place l =
+    (place : Place) → IsIn (take l.place-index l.losers) place → HasRecord (acts_of l.log) place.number ×
+    (IsFinished (acts_of l.log) place.number → ⊥)

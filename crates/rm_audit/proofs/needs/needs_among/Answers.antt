@@ -12,7 +12,13 @@ pub loop-txn-smaller : goal.loop-txn-smaller
 loop-txn-smaller c =
     let now : List Change = reverse c.loop-txn.left.items in
     let led : IsLed c.in-Some.txn.0 now = rw c.deref.ensures.value at c.in-Some.ensures in
-    omega (arith, length-without_led c.in-Some.txn.0 now led, ap length c.remove_of.ensures, length-reverse c.loop-txn.left.items, length-reverse c.remove_of.new.pending.items)
+    omega (
+      arith,
+      length-without_led c.in-Some.txn.0 now led,
+      ap length c.remove_of.ensures,
+      length-reverse c.loop-txn.left.items,
+      length-reverse c.remove_of.new.pending.items,
+    )
 
 pub loop-txn-preserved : goal.loop-txn-preserved
 loop-txn-preserved c =
@@ -23,7 +29,8 @@ loop-txn-preserved c =
     let is : c.need_among.result ≡ need_in now c.args.page c.in-Some.txn.0 = rw c.deref-in-Some.ensures.value at c.need_among.ensures in
     let mine : IsPut first next c.args.page c.in-Some.txn.0 (need_at c.put.new.needs c.in-Some.txn.0) =
     subst (λ (v : ℕ). IsPut first next c.args.page c.in-Some.txn.0 v) (sym c.in_ok-put.ensures.here)
-    (put_mine first now next c.args.page c.in-Some.txn.0 (need_at c.loop-txn.needs c.in-Some.txn.0) c.need_among.result led c.remove_of.ensures is (c.loop-txn.invariant c.in-Some.txn.0)) in
+    (put_mine first now next c.args.page c.in-Some.txn.0 (need_at c.loop-txn.needs c.in-Some.txn.0) c.need_among.result led c.remove_of.ensures is
+    (c.loop-txn.invariant c.in-Some.txn.0)) in
     λ txn. elim (cases_eq c.in-Some.txn.0 txn) [
       | inl same ↦ subst (λ (t : ℕ). IsPut first next c.args.page t (need_at c.put.new.needs t)) same mine
       | inr other ↦

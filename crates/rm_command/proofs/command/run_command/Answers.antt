@@ -1,3 +1,4 @@
+use Rattle.rm_outside.specs.Calls.{facts_of}
 use Rattle.rm_outside.proofs.FaultLemmas.{Rises-later, Rises-before}
 use Rattle.rm_command.proofs.CommandLemmas.{takes_script, has_script, names_plain_or_none}
 use Rattle.rm_command.proofs.CompleteLemmas.{ends_right}
@@ -18,7 +19,7 @@ unfolding returns-clause-answers
 returns-clause-complete g c = (
   c.command_of-command.result,
   c.command_of-command.ensures,
-  ends_right _ _ _ _ _ _ _ _ _ _ _ _ _ _ _ _ (returns-clause-answers g c).2,
+  ends_right _ _ _ _ _ _ (facts_of g.V.Volume c.args.volume.now) (facts_of g.V.Volume c.do_command-status.new.volume) _ (returns-clause-answers g c).2,
 )
 
 pub returns-clause-to_end : goal.returns-clause-to_end

@@ -5,7 +5,13 @@ use Rattle.rm_command.proofs.volumes.create.Goals as goal
 
 pub returns-clause-owes : goal.returns-clause-owes
 returns-clause-owes g c =
+    let made = c.in_default-create.ensures in
     let err = rw c.as_slice.ensures.value at c.in-Err-write_all.ensures.err in
     owes_cut _ _ _ _ _ err.0 c.in-Err-write_all.ensures.cause.counted
-    (record { texts = (c.in_default-create.ensures.not_made, c.in_default-create.ensures.fresh, rw c.new-text.ensures.items at c.in-Ok.ensures.ok); images = c.in_default-create.ensures.any_moment; made = c.in_default-create.ensures.made_any_moment; untouched = λ memory. let differ = ap number_of memory in absurd (omega arith) })
+    (record {
+      texts = (made.not_made, made.fresh, rw c.new-text.ensures.items at c.in-Ok.ensures.ok);
+      images = made.any_moment;
+      made = λ models is. (made.made models is).0.time;
+      untouched = λ memory. let differ = ap number_of memory in absurd (omega arith);
+    })
     err.1

@@ -2,12 +2,12 @@ use Rattle.std.proofs.Common.{◌≡◌, ℕ, ◌+◌, List, take, drop, length,
 use Rattle.std.proofs.lemmas.Grind.{common_steps}
 use Rattle.std.proofs.lemmas.Result.{err_from_is_err_and}
 use Rattle.rm_outside.specs.Streams.{Takes}
-use Rattle.rm_outside.proofs.StreamLemmas.{Takes-front}
+use Rattle.rm_outside.proofs.StreamLemmas.{Takes-prefix}
 use Rattle.rm_command.proofs.writing.write_all.Goals as goal
 
 -- a front of the text, and then a front of the rest of it
 sent_more : (a b c : Option (List ℕ)) (text rest : List ℕ) (m n : ℕ) → rest ≡ drop m text → Takes a b (take m text) → Takes b c (take n rest) → Takes a c (take (m + n) text)
-sent_more a b c text rest m n is_rest first second = Takes-front a b c text m n first (subst (λ (r : List ℕ). Takes b c (take n r)) is_rest second)
+sent_more a b c text rest m n is_rest first second = Takes-prefix a b c text m n first (subst (λ (r : List ℕ). Takes b c (take n r)) is_rest second)
 
 pub returns-in_err-count-clause-err : goal.returns-in_err-count-clause-err
 returns-in_err-count-clause-err g c =

@@ -4,6 +4,6 @@ use Rattle.rm_master.proofs.creation.clear_block.Goals as goal
 
 pub returns-clause-zeros : goal.returns-clause-zeros
 returns-clause-zeros g c =
-    on_ok_weaker c.write.result
-    (λ written told below. zeros_on _ _ _ _ _ _ c.zero_block-zeros.ensures.len c.zero_block-zeros.ensures.zeros c.write.ensures.content (written told) below)
-    c.write.ensures.written
+    on_ok_weaker c.write_area.result
+    (λ written told below. zeros_on _ _ _ _ _ _ c.zero_block-zeros.ensures.len c.zero_block-zeros.ensures.zeros c.write_area.ensures.writes.0.content (written told) below)
+    c.write_area.ensures.bytes

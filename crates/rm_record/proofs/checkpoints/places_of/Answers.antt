@@ -7,7 +7,8 @@ pub loop-place-init : goal.loop-place-init
 unfolding places_field
 loop-place-init c =
     rw c.new-places.ensures record {
-      reads = let all : c.in_ok-count.count - 0 ≡ c.in_ok-count.count = omega arith in rw (c.in_ok-count.ensures, all, c.from-least.ensures) (with_more_none (entries_field c.in_ok-count.count c.args.low c.args.high c.in_ok-count.rest.now));
+      reads = let all : c.in_ok-count.count - 0 ≡ c.in_ok-count.count = omega arith in rw (c.in_ok-count.ensures, all, c.from-least.ensures)
+          (with_more_none (entries_field c.in_ok-count.count c.args.low c.args.high c.in_ok-count.rest.now));
       above = omega arith;
       count_is = refl;
     }
@@ -24,7 +25,8 @@ loop-place-preserved c =
     rw (c.in_ok-push.ensures.ok, c.from-least-in-loop-place.ensures) record {
       reads = c.loop-place.invariant.reads
           ∙ ap (λ n. with_more c.loop-place.places (entries_field n c.loop-place.least c.args.high c.loop-place.rest.now)) left
-          ∙ entries_more _ c.loop-place.least c.args.high c.loop-place.rest.now c.loop-place.places c.in_ok-place.place c.in_ok-place.after.now c.in_ok-place.ensures.value;
+          ∙ entries_more _ c.loop-place.least c.args.high c.loop-place.rest.now c.loop-place.places
+          c.in_ok-place.place c.in_ok-place.after.now c.in_ok-place.ensures.value;
       above = rw (← c.in_ok-push.ensures.ok) (omega (arith, c.in_ok-push.ensures.next));
       count_is = omega (arith, length-append c.loop-place.places (c.in_ok-place.place ∷ []), c.loop-place.invariant.count_is);
     }

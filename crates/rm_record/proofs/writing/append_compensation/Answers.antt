@@ -7,5 +7,13 @@ joined a b c d e f = simp append_assoc
 
 pub returns-clause-items : goal.returns-clause-items
 returns-clause-items c =
-    rw (c.append_slot.ensures.items, c.append_rid.ensures.items, c.append-2.ensures.items, c.append.ensures.items, c.append_head.ensures.items, c.to_be_bytes-2.ensures, c.to_be_bytes.ensures)
+    rw (
+      c.append_slot.ensures.items,
+      c.append_rid.ensures.items,
+      c.append-2.ensures.items,
+      c.append.ensures.items,
+      c.append_head.ensures.items,
+      c.to_be_bytes-2.ensures,
+      c.to_be_bytes.ensures,
+    )
     (joined c.args.out.now.items _ _ _ _ _)

@@ -16,14 +16,14 @@ pub returns-in_err-flush-clause-any_moment : goal.returns-in_err-flush-clause-an
 returns-in_err-flush-clause-any_moment g c pages count rows at =
     let some : 0 < length c.args.self.now.log.tail = omega arith in
     let active = active_of_tail pages count rows _ _ _ _ _ at some in
-    weaker (both (c.flush.ensures.logs _ _ (tails pages count rows _ _ _ _ _ at)) c.flush.ensures.any_moment)
+    weaker (both (c.flush.ensures.steps.0.logs _ _ (tails pages count rows _ _ _ _ _ at)) c.flush.ensures.steps.0.writes.time)
     (λ d each. holds_in_flush pages count rows _ _ _ _ _ at c.requires.ready active some d each.0 each.1)
 
 pub returns-clause-any_moment : goal.returns-clause-any_moment
 returns-clause-any_moment g c pages count rows at =
     let some : 0 < length c.args.self.now.log.tail = omega arith in
     let active = active_of_tail pages count rows _ _ _ _ _ at some in
-    weaker (both (c.flush.ensures.logs _ _ (tails pages count rows _ _ _ _ _ at)) c.flush.ensures.any_moment)
+    weaker (both (c.flush.ensures.steps.0.logs _ _ (tails pages count rows _ _ _ _ _ at)) c.flush.ensures.steps.0.writes.time)
     (λ d each. holds_in_flush pages count rows _ _ _ _ _ at c.requires.ready active some d each.0 each.1)
 
 pub returns-clause-at : goal.returns-clause-at
@@ -35,5 +35,5 @@ returns-clause-at g c pages count rows at =
     ap (λ b. cond b (record c.args.self.now.log { batch = end_of c.args.self.now.log; tail = [] }) c.args.self.now.log) (lt-ltb LONG_TAIL (length c.args.self.now.log.tail) long) in
     subst (λ (log : LogValue). IsAt pages count rows c.args.self.now.session.core log c.args.self.now.under.0 c.args.self.now.inserts (g.V.Volume.may_leave c.flush.new.volume)) (sym log_is)
     (at_flushed pages count rows _ _ _ _ _ at c.requires.ready active some (g.V.Volume.may_leave c.flush.new.volume)
-    (c.in_ok-flush.ensures.logs_ok _ _ (tails pages count rows _ _ _ _ _ at) some)
-    (λ d now. (c.in_ok-flush.ensures.flushed some d now).1))
+    (c.in_ok-flush.ensures.done.logs _ _ (tails pages count rows _ _ _ _ _ at) some)
+    c.flush.ensures.steps.0.writes.crash.each)
