@@ -56,7 +56,8 @@ placed_after batch batches history at [] after within all = all
 placed_after batch batches history at (next ∷ records) after within all =
     let longer : length (spelling_all (next ∷ records)) ≡ length (spelling next) + length (spelling_all records) = length-spelling_all next records in
     let placed : IsPlaced (batch ∷ batches) (lsn_of (act_at at next)) =
-    subst (IsPlaced (batch ∷ batches)) (sym (lsn_of-act_at at next)) (newly_placed batch batches at after (omega (arith, within, longer, spelling_long next))) in
+    subst (IsPlaced (batch ∷ batches)) (sym (lsn_of-act_at at next)) (newly_placed batch batches at after
+    (omega (arith, within, longer, spelling_long next))) in
     placed_after batch batches (act_at at next ∷ history) (at + length (spelling next)) records (omega (arith, after)) (omega (arith, within, longer))
     (placed, all)
 

@@ -1,5 +1,6 @@
 -- A whole image with records, a checkpoint and a copy: a volume of one page, whose block lacks a committed insert.
-use Rattle.std.proofs.Common.{◌≡◌, inl, inr, false, if◌then◌else◌, nat_lt, ℕ, ◌+◌, ◌-◌, zero, suc, ◌≤◌, ◌<◌, List, [], ◌∷◌, ◌++◌, replicate, get_or, Some, refl, ap}
+use Rattle.std.proofs.Common.{◌≡◌, inl, inr, false, if◌then◌else◌, nat_lt, ℕ, ◌+◌, ◌-◌, zero, suc, ◌≤◌, ◌<◌, List, [], ◌∷◌, ◌++◌, replicate}
+use Rattle.std.proofs.Common.{get_or, Some, refl, ap}
 use Rattle.std.proofs.Common.{subst, arith, lit<, lit≤}
 use Rattle.std.proofs.lemmas.Bool.{le-ltb}
 use Rattle.std.proofs.lemmas.List.{get_or-append-add, get_or_past}
