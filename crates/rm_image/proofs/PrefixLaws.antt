@@ -5,7 +5,7 @@ use Rattle.std.proofs.lemmas.Bool.{eq-eqb, ne_eqb}
 use Rattle.rm_types.specs.declared.slots.Slot.{Slot}
 use Rattle.rm_types.specs.declared.numbers.TheConstants.{BLOCK_PAGES}
 use Rattle.rm_history.specs.Acts.{Act, History, changes, undoes, enters, lsn_of, newest_lsn}
-use Rattle.rm_history.specs.Contents.{page_of, version_of, entry_of, block_version_of}
+use Rattle.rm_history.specs.Contents.{page_of, version_of, version_after, entry_of, block_version_of}
 use Rattle.rm_history.specs.Rules.{IsInOrder}
 use Rattle.rm_image.specs.Standing.{IsOnPage, IsInBlock, HoldsPage, HoldsEntries}
 use Rattle.rm_image.specs.Laws.{BlocksHavePrefixes, InventoryBlocksHavePrefixes}
@@ -37,13 +37,15 @@ module _ (page : ℕ) where
   page_off other before off = refl
 
   -- the version is not above the newest record
+  version_after-le : (act : Act) (version : ℕ) → version ≤ lsn_of act → version_after act page version ≤ lsn_of act
+  version_after-le (changes c) version le = cond-le (c.rid.page == page) c.lsn version c.lsn (omega arith) le
+  version_after-le (undoes u) version le = cond-le (u.rid.page == page) u.lsn version u.lsn (omega arith) le
+  version_after-le other version le = le
+
   pub version_within : (history : History) → IsInOrder history → version_of history page ≤ newest_lsn history
   version_within [] ordered = omega arith
-  version_within (changes c ∷ before) ordered =
-      cond-le (c.rid.page == page) c.lsn (version_of before page) c.lsn (omega arith) (omega (arith, version_within before ordered.0, ordered.1.above))
-  version_within (undoes u ∷ before) ordered =
-      cond-le (u.rid.page == page) u.lsn (version_of before page) u.lsn (omega arith) (omega (arith, version_within before ordered.0, ordered.1.above))
-  version_within (other ∷ before) ordered = omega (arith, version_within before ordered.0, ordered.1.above)
+  version_within (act ∷ before) ordered =
+      version_after-le act (version_of before page) (omega (arith, version_within before ordered.0, ordered.1.above))
 
   module _ (gates : ℕ → ℕ) (version : ℕ) (slots : List Slot) (redo : ℕ) where
     -- so the lemmas on prefixes hold of a page's block

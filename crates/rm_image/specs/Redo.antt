@@ -1,9 +1,9 @@
 -- What redo makes of a block: records are repeated in order, from an offset on, each where its LSN is above the block's version.
-use Rattle.std.specs.Prelude.{ℕ, ◌+◌, ◌*◌, ◌/◌, ◌==◌, ◌&&◌, nat_le, nat_lt, if◌then◌else◌, List, [], ◌∷◌, Bool}
+use Rattle.std.specs.Prelude.{ℕ, ◌+◌, ◌*◌, ◌&&◌, nat_le, nat_lt, if◌then◌else◌, List, [], ◌∷◌, Bool}
 use Rattle.rm_types.specs.declared.numbers.TheConstants.{BLOCK_PAGES}
 use Rattle.rm_types.specs.declared.slots.Slot.{Slot}
-use Rattle.rm_model.specs.Pages.{set_slot}
-use Rattle.rm_history.specs.Acts.{Act, History, changes, undoes, enters, commits, ends, marks, lsn_of}
+use Rattle.rm_history.specs.Acts.{Act, History, lsn_of}
+use Rattle.rm_history.specs.Contents.{page_after, version_after, entry_after, block_version_after}
 
 -- what a page's block stands for, and what a block of the inventory does
 pub record PageBlock : Type 0 where
@@ -14,25 +14,15 @@ pub record EntriesBlock : Type 0 where
   pub version : ℕ
   pub entries : ℕ → ℕ
 
--- a page's block after a record: one that names a slot of the page sets it
+-- a page's block after a record, and a block of the inventory
 abbrev pub repeated : ℕ → Act → PageBlock → PageBlock
-repeated page (changes c) block = if c.rid.page == page then record { version = c.lsn; slots = set_slot block.slots c.rid.slot c.after } else block
-repeated page (undoes u) block = if u.rid.page == page then record { version = u.lsn; slots = set_slot block.slots u.rid.slot u.back } else block
-repeated page (enters e) block = block
-repeated page (commits f) block = block
-repeated page (ends f) block = block
-repeated page (marks m) block = block
+repeated page act block = record { version = version_after act page block.version; slots = page_after act page block.slots }
 
--- a block of the inventory after a record: one that enters a category of a page of it sets that
 abbrev pub entry_repeated : ℕ → Act → EntriesBlock → EntriesBlock
-entry_repeated number (changes c) block = block
-entry_repeated number (undoes u) block = block
-entry_repeated number (enters e) block = if (e.page / BLOCK_PAGES) == number
-    then record { version = e.lsn; entries = λ index. if e.page == (BLOCK_PAGES * number + index) then e.category else block.entries index }
-    else block
-entry_repeated number (commits f) block = block
-entry_repeated number (ends f) block = block
-entry_repeated number (marks m) block = block
+entry_repeated number act block = record {
+  version = block_version_after act number block.version;
+  entries = λ index. entry_after act (BLOCK_PAGES * number + index) (block.entries index);
+}
 
 -- a record is due: its batch's gate is not before the offset, and its LSN is above the version
 abbrev pub is_due : (ℕ → ℕ) → ℕ → Act → ℕ → Bool
