@@ -13,7 +13,7 @@ use Rattle.rm_history.specs.Undoing.{category_after, entry_for, undo_for}
 use Rattle.rm_history.specs.UndoBytes.{inventory_record, compensate_record, end_record, bytes_of, with_undo, undoing_bytes, ending_bytes, undo_bytes}
 use Rattle.rm_history.specs.Contents.{entry_of}
 use Rattle.rm_history.proofs.AllPending.{of_txn-newest, pending_of_all}
-use Rattle.rm_history.proofs.Losers.{losers_rise, losers_have_records, losers_are_unfinished}
+use Rattle.rm_history.proofs.Losers.{losers_rise, losers_are_unfinished}
 use Rattle.rm_restart.specs.Plain.{ArePlain}
 use Rattle.rm_restart.proofs.PlainLaws.{AreInserts, pending_inserts}
 
@@ -92,7 +92,9 @@ unfinished_pends (ends f ∷ before) plain txn has unfinished = absurd plain.0
 unfinished_pends (marks m ∷ before) plain txn has unfinished = absurd plain.0
 
 loser_pends : (history : History) → IsInOrder history → ArePlain history → (txn : ℕ) → IsAmong (losers_of history) txn → pending_of history txn ≡ [] → ⊥
-loser_pends history ordered plain txn loses = unfinished_pends history plain txn (losers_have_records history txn loses) (losers_are_unfinished history ordered txn loses)
+loser_pends history ordered plain txn loses =
+    let is = (losers_are_unfinished.exact history ordered txn).0 loses in
+    unfinished_pends history plain txn is.0 is.1
 
 -- numbers that rise and are one are no more than one
 at_most_one : (only : ℕ) (numbers : List ℕ) → AreRising numbers → ((n : ℕ) → IsAmong numbers n → n ≡ only) → ending_bytes numbers ≤ 10
