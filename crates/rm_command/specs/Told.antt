@@ -1,4 +1,4 @@
--- What was written for a command, and the status that it answers.
+-- What was written for a command, and the status that it returns.
 use Rattle.std.specs.Prelude.{◌≡◌, ℕ, Bool, true, false, List, ◌++◌, take, Option, ◌⊎◌, MatchBool}
 use Rattle.rm_outside.specs.Streams.{Takes}
 use Rattle.rm_command.specs.declared.statuses.Status.{Status}

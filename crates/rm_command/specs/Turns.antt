@@ -31,7 +31,7 @@ use Rattle.rm_command.specs.Reading.{HasLeft}
 use Rattle.rm_command.specs.Volumes.{RefusedText, ChangesBy}
 
 -- A session did the first so many of the lines, from this state and this use of the log to that one, and this holds
--- of its replies and of the line behind them.
+-- of its replies and of the line after them.
 pub record RunTo (first : State) (start : Used) (lines : List Line) (Leaves : List Line → List Reply → Option Line → Type 0) : Type 0 where
   pub count : ℕ
   pub replies : List Reply
@@ -44,7 +44,7 @@ pub record RunTo (first : State) (start : Used) (lines : List Line) (Leaves : Li
 abbrev pub unfinished_of : State → List ℕ
 unfinished_of last = if last.core.active then unfinished_line SESSION (last.core.next - 1) else []
 
--- the log lacks room, or the ids are spent, for the line behind the first so many
+-- the log lacks room, or the ids are spent, for the line after the first `count` ones
 pub record IsFull (lines : List Line) (count : ℕ) (last : State) (used : Used) (end : ℕ) : Type 0 where
   pub asked : Line
   pub is_next : slice_get lines count ≡ Some asked

@@ -77,7 +77,7 @@ fn do_command<V: Volume, S: Source, K: Sink>(
     }
 }
 
-/// Writes the line that tells of a status, and answers that status, or [`Status::Sink`] where the sink fails.
+/// Writes the line of a status, and returns that status, or [`Status::Sink`] where the sink fails.
 pub fn tell<K: Sink>(status: Status, out: &mut K) -> Status
     ensures told { Tells (K.taken out.old) (K.taken out.new) (Rises (K.faults out.old) (K.faults out.new)) status result }
     ensures kept { K.faults out.old ≤ K.faults out.new }
@@ -107,7 +107,7 @@ pub fn run_command<V: Volume, S: Source, K: Sink>(
         × Answers (DueFor command (S.left script.old) (Rises (S.faults script.old) (S.faults script.new))
         (facts_of V.Volume volume.old) (facts_of V.Volume volume.new))
         (K.taken out.old) (K.taken out.new) (Rises (K.faults out.old) (K.faults out.new)) result }
-    // Where nothing fails, a right script over a right volume is done, but for want of memory, log room or ids.
+    // Where nothing fails, a right script over a right volume is done, unless memory, log room or ids run out.
     ensures complete { (command : Option Commands) × Names (map string_bytes words.now) command
         × ((Rises (S.faults script.old) (S.faults script.new) → ⊥) → (Rises (K.faults out.old) (K.faults out.new) → ⊥) → ((area : Areas) → HasFailed (facts_of V.Volume volume.old) (facts_of V.Volume volume.new) area → ⊥)
         → EndsRight command (S.left script.old) (facts_of V.Volume volume.old) result) }

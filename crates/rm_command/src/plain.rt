@@ -40,7 +40,7 @@ fn do_lines<K: Sink>(
     Ok(())
 }
 
-/// Does the lines of a new session, and writes their replies: all of them, or with want of memory those of
+/// Does the lines of a new session, and writes their replies: all of them, or where memory runs out those of
 /// the first lines, or with a sink that fails a front of them.
 pub fn run_lines<K: Sink>(alloc: Global, lines: &[Line], out: &mut K) -> Result<(), Stop>
     requires { length lines.now < 2 ^ 31 }

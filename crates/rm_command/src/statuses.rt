@@ -164,7 +164,7 @@ impl Status {
     }
 
     /// The line that tells of it, which is empty for [`Status::Done`] and [`Status::Sink`]
-    /// (docs/FORMATS.md, "Statuses"). It takes no memory, so that want of memory can be told.
+    /// (docs/FORMATS.md, "Statuses"). It takes no memory, so that it can be written where memory ran out.
     pub fn line(self) -> ArrayString<LINE_ROOM>
         ensures { result.bytes ≡ error_line self }
     {

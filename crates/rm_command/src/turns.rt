@@ -30,7 +30,7 @@ use std::alloc::Global;
 /// The number of the one session.
 pub const SESSION: u8 = 1;
 
-/// Gathers a reply's line in `text`, and writes what was gathered: behind a commit, or once it is long.
+/// Gathers a reply's line in `text`, and writes what was gathered: after a commit, or once it is long.
 fn tell_reply<K: Sink>(reply: &Reply, text: &mut Vec<u8>, out: &mut K) -> Result<(), Status>
     ensures ok { OnOk result (Moves (K.taken out.old) (K.taken out.new) (text.old.items ++ turn_line SESSION reply.now) text.new.items) }
     ensures told { OnOk result (reply.now ≡ Reply.Committed → text.new.items ≡ []) }
@@ -65,7 +65,7 @@ fn tell_unfinished(session: &Session, text: &mut Vec<u8>) -> Result<(), Status>
     Ok(())
 }
 
-/// Does the lines in order, and gathers their replies in `text`, which is written behind each commit and
+/// Does the lines in order, and gathers their replies in `text`, which is written after each commit and
 /// whenever it is long.
 fn do_turns<V: Volume, K: Sink>(
     engine: &mut Engine,

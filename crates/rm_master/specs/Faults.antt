@@ -1,6 +1,5 @@
 -- What each error of a call on a volume's master says.
 use Rattle.std.specs.Prelude.{◌≡◌, ℕ, IsTrue}
-use Rattle.rm_types.specs.declared.areas.Area.{Area}
 use Rattle.rm_types.specs.declared.areas.Area.TheVariants.{Master}
 use Rattle.rm_types.specs.declared.faults.Fault.{Fault}
 use Rattle.rm_types.specs.declared.faults.Fault.TheVariants as fault

@@ -23,7 +23,7 @@ pub trait Volume: Drop {
     ghost use Rattle.rm_outside.specs.Moments.{AddsNone, Follows, IsDurable, Elapses};
     ghost use Rattle.rm_outside.specs.Counts.{CountsBlock, CountsBytes, CountsAtMost};
 
-    /// Whether volumes of this type tell their content.
+    /// Whether volumes of this type model their content.
     ghost models_content: { Bool };
 
     /// The image that a read gives.

@@ -50,7 +50,7 @@ pub record NeedsUndoOf (told : Type 0) (content : Image) (id : ℕ) : Type 0 whe
   pub pends : pending_of (acts_of_batches batches) id ≡ [] → ⊥
   pub least : (other : ℕ) → other < id → pending_of (acts_of_batches batches) other ≡ []
 
--- with this record behind it the history names a page that the file lacks, is not plain, or has a page that does not fit
+-- with this record after it the history names a page that the file lacks, is not plain, or has a page that does not fit
 abbrev pub IsMisfit : ℕ → History → Act → Type 0
 IsMisfit pages before act = (IsBelow pages act → ⊥) ⊎ ((IsPlain act → ⊥) ⊎ ((page : ℕ) × (CAPACITY < used (page_of (act ∷ before) page))))
 
