@@ -1,4 +1,4 @@
--- Where nothing fails, what is due for a command tells that it was done.
+-- Where nothing fails, what is due for a command says that it was done.
 use Rattle.std.proofs.Common.{◌≡◌, ℕ, Bool, true, false, List, [], Option, Some, None, IsTrue, refl, sym, ap, ◌∙◌, subst, inl, inr, arith}
 use Rattle.std.proofs.lemmas.Bool.{true≢false}
 use Rattle.std.specs.Prelude.{MatchBool}
@@ -25,7 +25,7 @@ use Rattle.rm_command.specs.declared.commands.Command.TheVariants as command
 use Rattle.rm_command.specs.declared.statuses.Status.{Status}
 use Rattle.rm_command.specs.declared.statuses.Status.TheVariants as status
 use Rattle.rm_command.specs.Reading.{HasLeft}
-use Rattle.rm_command.specs.Told.{is_sink, Answers}
+use Rattle.rm_command.specs.Output.{is_sink, Answers}
 use Rattle.rm_command.specs.Volumes.{CreateText, RefusedText, RestartText}
 use Rattle.rm_command.specs.Turns.{RunText, ScriptText, TurnsDue}
 use Rattle.rm_command.specs.Complete.{IsDone, IsDoneOrRefused, IsSettled, EndsRight}
@@ -107,7 +107,7 @@ module _ (old new : Facts) (models : IsTrue old.models_content) (well : (area : 
   run_done first start lines Leaves (status.Limit what) text sink_well due = absurd due
   run_done first start lines Leaves (status.NeedsUndo txn) text sink_well due = absurd due
 
--- a right script of `turns` is refused for want of memory alone
+-- a right script of `turns` is refused but out of memory alone
 script_right : (bytes : List ℕ) (lines : List Line) (source_failed : Type 0) (answer : Status) (text : List ℕ) → IsTurns lines bytes → IsWithinLimits bytes → (source_failed → ⊥)
     → ScriptText bytes source_failed answer text → answer ≡ status.NoMemory
 script_right bytes lines source_failed status.NoMemory text right limits source_well due = refl

@@ -59,40 +59,40 @@ letter = no_count (codes "x") (λ pages some few is.
     omega (arith, digit_at (decimal pages) 0 numeral.1 numeral.0, ap (λ (t : List ℕ). get_or t 0 0) is))
 
 -- the program exits with the number, and the line is the text
-abbrev Tells : Status → ℕ → List ℕ → Type 0
-Tells answer number text = (number_of answer ≡ number) × (error_line answer ≡ text)
+abbrev Reports : Status → ℕ → List ℕ → Type 0
+Reports answer number text = (number_of answer ≡ number) × (error_line answer ≡ text)
 
--- what is told by no line
-silent : Tells status.Done 0 [] × Tells status.Sink 6 []
+-- statuses without a line
+silent : Reports status.Done 0 [] × Reports status.Sink 6 []
 silent = ((refl, refl), (refl, refl))
 
--- what is told by words alone
+-- statuses with words alone
 by_words :
-    Tells status.Usage 2 (codes "error 2 usage\n")
-    × Tells status.Source 5 (codes "error 5 source\n")
-    × Tells status.NotMade 7 (codes "error 7 not made\n")
-    × Tells status.AlreadyMade 8 (codes "error 8 already made\n")
-    × Tells (status.Limit which.Bytes) 10 (codes "error 10 limit bytes\n")
-    × Tells (status.Limit which.Lines) 10 (codes "error 10 limit lines\n")
-    × Tells status.NoMemory 11 (codes "error 11 memory\n")
-    × Tells (status.TxnsSpent (record { 0 = 4294967295 })) 14 (codes "error 14 transactions spent\n")
+    Reports status.Usage 2 (codes "error 2 usage\n")
+    × Reports status.Source 5 (codes "error 5 source\n")
+    × Reports status.NotMade 7 (codes "error 7 not made\n")
+    × Reports status.AlreadyMade 8 (codes "error 8 already made\n")
+    × Reports (status.Limit which.Bytes) 10 (codes "error 10 limit bytes\n")
+    × Reports (status.Limit which.Lines) 10 (codes "error 10 limit lines\n")
+    × Reports status.NoMemory 11 (codes "error 11 memory\n")
+    × Reports (status.TxnsSpent (record { 0 = 4294967295 })) 14 (codes "error 14 transactions spent\n")
 by_words = ((refl, refl), (refl, refl), (refl, refl), (refl, refl), (refl, refl), (refl, refl), (refl, refl), (refl, refl))
 
 -- the areas by their names
 by_areas :
-    Tells (status.Volume area.Master) 4 (codes "error 4 volume master\n")
-    × Tells (status.Volume area.Log) 4 (codes "error 4 volume log\n")
-    × Tells (status.Volume area.Data) 4 (codes "error 4 volume data\n")
-    × Tells (status.Volume area.Space) 4 (codes "error 4 volume space\n")
-    × Tells (status.Volume area.Copy) 4 (codes "error 4 volume copy\n")
+    Reports (status.Volume area.Master) 4 (codes "error 4 volume master\n")
+    × Reports (status.Volume area.Log) 4 (codes "error 4 volume log\n")
+    × Reports (status.Volume area.Data) 4 (codes "error 4 volume data\n")
+    × Reports (status.Volume area.Space) 4 (codes "error 4 volume space\n")
+    × Reports (status.Volume area.Copy) 4 (codes "error 4 volume copy\n")
 by_areas = ((refl, refl), (refl, refl), (refl, refl), (refl, refl), (refl, refl))
 
 -- and with a number after the words
 by_numbers :
-    Tells (status.BadScript 100) 3 (codes "error 3 script line 100\n")
-    × Tells (status.Damaged area.Log 64) 9 (codes "error 9 damaged log 64\n")
-    × Tells (status.LogFull 281474976710656) 13 (codes "error 13 log full 281474976710656\n")
-    × Tells (status.NeedsUndo (record { 0 = 3 })) 15 (codes "error 15 needs undo 3\n")
+    Reports (status.BadScript 100) 3 (codes "error 3 script line 100\n")
+    × Reports (status.Damaged area.Log 64) 9 (codes "error 9 damaged log 64\n")
+    × Reports (status.LogFull 281474976710656) 13 (codes "error 13 log full 281474976710656\n")
+    × Reports (status.NeedsUndo (record { 0 = 3 })) 15 (codes "error 15 needs undo 3\n")
 unfolding digits
 by_numbers = ((refl, refl), (refl, refl), (refl, refl), (refl, refl))
 

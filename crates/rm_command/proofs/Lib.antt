@@ -1,7 +1,7 @@
 mod ReadingLemmas
 mod RunningLemmas
 mod PlainLemmas
-mod ToldLemmas
+mod OutputLemmas
 mod VolumeLemmas
 mod CommandLemmas
 mod TurnLemmas

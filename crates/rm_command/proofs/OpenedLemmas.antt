@@ -33,7 +33,7 @@ use Rattle.rm_command.specs.declared.statuses.Status.{Status}
 use Rattle.rm_command.specs.declared.statuses.Status.TheVariants as status
 use Rattle.rm_command.specs.Status.{error_line, of_restart}
 use Rattle.rm_command.specs.Running.{Moves}
-use Rattle.rm_command.specs.Told.{Begins, is_sink, Owes}
+use Rattle.rm_command.specs.Output.{Begins, is_sink, Owes}
 use Rattle.rm_command.specs.Volumes.{ChangesBy}
 use Rattle.rm_command.specs.Turns.{RunTo, RunText, HasRunImages, LeavesSound, LinesDue}
 use Rattle.rm_command.specs.Turning.{used_by, LeavesRun, Gathers}
@@ -88,7 +88,7 @@ module _ (old mid new : Facts) (lines : List Line) (pages : List (List Slot)) (n
   run_images done replies asked leaves_run models image =
       let read = opened_is_sound (IsTrue old.models_content) old.content MAX_LOG pages next log inserted opens models image in
       let at = at_opened (IsTrue old.models_content) old.content MAX_LOG pages next log inserted opens mid.may_leave read.sound_log
-          (λ c may. subst (λ (image : Image). IsImageOf opens.fields.pages opens.batches image) (sym (synced c may ∙ opening.content)) read.image_of) in
+      (λ c may. subst (λ (image : Image). IsImageOf opens.fields.pages opens.batches image) (sym (synced c may ∙ opening.content)) read.image_of) in
       let standing = at_engine engine pages next log opens.fields.pages (commit_count (acts_of_batches opens.batches)) (rows_of_log (acts_of_batches opens.batches)) mid.may_leave session log_is under inserts at in
       let idle : engine.session.core.active ≡ false = ap (λ (s : State). s.core.active) session in
       let run = leaves_run opens.fields.pages (commit_count (acts_of_batches opens.batches)) (rows_of_log (acts_of_batches opens.batches)) standing idle in

@@ -21,11 +21,11 @@ use Rattle.rm_command.specs.declared.statuses.Status.TheVariants as status
 use Rattle.rm_command.specs.Status.{status_of}
 use Rattle.rm_command.specs.Reading.{HasLeft, Reads}
 use Rattle.rm_command.specs.Running.{DidSome, DidAll, Broke}
-use Rattle.rm_command.specs.Told.{Owes}
+use Rattle.rm_command.specs.Output.{Owes}
 use Rattle.rm_command.specs.Plain.{Draws, IsDueFor, PlainDue}
 use Rattle.rm_command.specs.Complete.{IsDone}
 
--- the bytes that a source has, where it tells them
+-- the bytes that a source has, if it models them
 pub some_left : (left : Option (List ℕ)) → (bytes : List ℕ) × HasLeft left bytes
 some_left None = ([], tt)
 some_left (Some bytes) = (bytes, refl)
@@ -33,11 +33,11 @@ some_left (Some bytes) = (bytes, refl)
 -- the bytes that were read are short, so they are all
 pub all_read : (left after : Option (List ℕ)) (bytes : List ℕ) (reads : Reads left after bytes) → length bytes ≤ MAX_BYTES → HasLeft left bytes
 all_read left after bytes reads short =
-    subst (λ (all : List ℕ). HasLeft left all) (reads.front ∙ ap (λ r. bytes ++ r) (reads.whole short).0 ∙ append-nil bytes) reads.had
+    subst (λ (all : List ℕ). HasLeft left all) (reads.prefix ∙ ap (λ r. bytes ++ r) (reads.whole short).0 ∙ append-nil bytes) reads.had
 
 -- a script that is refused for its length has more than is read
 pub too_much : (left after : Option (List ℕ)) (bytes : List ℕ) → Reads left after bytes → (what : Which) → HasTooMuch bytes what → (all : List ℕ) × HasLeft left all × HasTooMuch all what
-too_much left after bytes reads which.Bytes long = (reads.all, reads.had, omega (arith, ap length reads.front, length-append {A = ℕ}))
+too_much left after bytes reads which.Bytes long = (reads.all, reads.had, omega (arith, ap length reads.prefix, length-append {A = ℕ}))
 too_much left after bytes reads which.Lines long = (bytes, all_read left after bytes reads long.0, long)
 
 module _ (left a : Option (List ℕ)) (source_failed sink_failed : Type 0) where
@@ -95,8 +95,8 @@ draws_more bytes lines count mid replies limits plain run =
 
 module _ (left a b after : Option (List ℕ)) (source_failed sink_failed : Type 0) (bytes : List ℕ) (lines : List Line) (reads : Reads left after bytes) (limits : IsWithinLimits bytes) (plain : IsPlain lines bytes) where
   -- memory ran out, and the lines that were done are written
-  pub owes_front : DidSome (fresh PAGES) lines a b [] → Owes (PlainDue left source_failed) a b sink_failed status.NoMemory
-  owes_front (count, mid, did) =
+  pub owes_prefix : DidSome (fresh PAGES) lines a b [] → Owes (PlainDue left source_failed) a b sink_failed status.NoMemory
+  owes_prefix (count, mid, did) =
       let more = draws_more bytes lines count mid did.replies limits plain did.run in
       record {
         text = did.sent;

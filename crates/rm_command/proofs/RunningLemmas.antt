@@ -17,18 +17,18 @@ pub Did-none : (old : State) (a : Option (List ℕ)) (buffer : List ℕ) → buf
 Did-none old a buffer empty = record { replies = []; sent = []; run = refl; took = Takes-none a; text = empty }
 
 -- one line more, whose reply goes into the buffer
-pub Did-line : (old mid new : State) (lines : List Line) (said : Line) (told : Reply) (a b : Option (List ℕ)) (buffer more : List ℕ) → Did old mid lines a b buffer → Step mid said told new → more ≡ buffer ++ text_of told → Did old new (lines ++ said ∷ []) a b more
-Did-line old mid new lines said told a b buffer more did step is_more = record {
-  replies = did.replies ++ told ∷ [];
+pub Did-line : (old mid new : State) (lines : List Line) (said : Line) (answer : Reply) (a b : Option (List ℕ)) (buffer more : List ℕ) → Did old mid lines a b buffer → Step mid said answer new → more ≡ buffer ++ text_of answer → Did old new (lines ++ said ∷ []) a b more
+Did-line old mid new lines said answer a b buffer more did step is_more = record {
+  replies = did.replies ++ answer ∷ [];
   sent = did.sent;
-  run = run_goes_on old mid new lines did.replies said told did.run step;
+  run = run_goes_on old mid new lines did.replies said answer did.run step;
   took = did.took;
   text =
-      ap (λ m. did.sent ++ m) is_more ∙ sym (append_assoc did.sent buffer (text_of told)) ∙ ap (λ t. t ++ text_of told) did.text
-      ∙ ap (λ t. texts_of did.replies ++ t) (sym (append-nil (text_of told))) ∙ sym (flat_map-append text_of did.replies (told ∷ []));
+      ap (λ m. did.sent ++ m) is_more ∙ sym (append_assoc did.sent buffer (text_of answer)) ∙ ap (λ t. t ++ text_of answer) did.text
+      ∙ ap (λ t. texts_of did.replies ++ t) (sym (append-nil (text_of answer))) ∙ sym (flat_map-append text_of did.replies (answer ∷ []));
 }
 
--- the sink takes a front of the buffer
+-- the sink takes a prefix of the buffer
 pub Did-moves : (old new : State) (lines : List Line) (a b c : Option (List ℕ)) (buffer rest : List ℕ) → Did old new lines a b buffer → Moves b c buffer rest → Did old new lines a c rest
 Did-moves old new lines a b c buffer rest did moves = record {
   replies = did.replies;
@@ -42,8 +42,8 @@ Did-moves old new lines a b c buffer rest did moves = record {
 pub Moves-all : (a b : Option (List ℕ)) (buffer : List ℕ) → Takes a b buffer → Moves a b buffer []
 Moves-all a b buffer took = record { sent = buffer; cut = sym (append-nil buffer); took = took }
 
-pub Moves-front : (a b : Option (List ℕ)) (buffer : List ℕ) (count : ℕ) → Takes a b (take count buffer) → Moves a b buffer (drop count buffer)
-Moves-front a b buffer count took = record { sent = take count buffer; cut = sym (take-append-drop count buffer); took = took }
+pub Moves-prefix : (a b : Option (List ℕ)) (buffer : List ℕ) (count : ℕ) → Takes a b (take count buffer) → Moves a b buffer (drop count buffer)
+Moves-prefix a b buffer count took = record { sent = take count buffer; cut = sym (take-append-drop count buffer); took = took }
 
 -- nothing is moved
 pub Moves-none : (a : Option (List ℕ)) (buffer : List ℕ) → Moves a a buffer buffer

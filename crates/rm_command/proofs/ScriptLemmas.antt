@@ -14,7 +14,7 @@ use Rattle.rm_command.specs.declared.statuses.Status.{Status}
 use Rattle.rm_command.specs.declared.statuses.Status.TheVariants as status
 use Rattle.rm_command.specs.Status.{status_of}
 use Rattle.rm_command.specs.Reading.{Reads}
-use Rattle.rm_command.specs.Told.{Begins, is_sink, Owes}
+use Rattle.rm_command.specs.Output.{Begins, is_sink, Owes}
 use Rattle.rm_command.specs.Turns.{LinesDue, TurnsDue}
 use Rattle.rm_command.proofs.PlainLemmas.{some_left, all_read, too_much}
 

@@ -30,21 +30,21 @@ use Rattle.rm_command.specs.Turns.{RunTo, RunText, unfinished_of}
 use Rattle.rm_command.specs.Turning.{used_by, Turned, Gathers}
 
 -- the engine did the line, which had room in the log
-pub record Does (old : Engine) (said : Line) (told : Reply) (new : Engine) : Type 0 where
-  pub step : Step old.session said told new.session
+pub record Does (old : Engine) (said : Line) (drawn : Reply) (new : Engine) : Type 0 where
+  pub step : Step old.session said drawn new.session
   pub room : HasLogRoom MAX_LOG old.session.core (used_by old) said
-  pub uses : used_by new ≡ used_after said told (used_by old)
+  pub uses : used_by new ≡ used_after said drawn (used_by old)
 
 -- the run with that line
-runs_on : (old mid new : Engine) (lines : List Line) (replies : List Reply) (said : Line) (told : Reply) → LoggedRun MAX_LOG old.session (used_by old) lines replies mid.session (used_by mid) → Does mid said told new
-    → LoggedRun MAX_LOG old.session (used_by old) (lines ++ said ∷ []) (replies ++ told ∷ []) new.session (used_by new)
-runs_on old mid new lines replies said told run does =
-    subst (λ (u : Used). LoggedRun MAX_LOG old.session (used_by old) (lines ++ said ∷ []) (replies ++ told ∷ []) new.session u) (sym does.uses)
-    (logged_goes_on MAX_LOG old.session mid.session new.session (used_by old) (used_by mid) lines replies said told run does.step does.room)
+runs_on : (old mid new : Engine) (lines : List Line) (replies : List Reply) (said : Line) (drawn : Reply) → LoggedRun MAX_LOG old.session (used_by old) lines replies mid.session (used_by mid) → Does mid said drawn new
+    → LoggedRun MAX_LOG old.session (used_by old) (lines ++ said ∷ []) (replies ++ drawn ∷ []) new.session (used_by new)
+runs_on old mid new lines replies said drawn run does =
+    subst (λ (u : Used). LoggedRun MAX_LOG old.session (used_by old) (lines ++ said ∷ []) (replies ++ drawn ∷ []) new.session u) (sym does.uses)
+    (logged_goes_on MAX_LOG old.session mid.session new.session (used_by old) (used_by mid) lines replies said drawn run does.step does.room)
 
 -- one reply more
-turn_more : (replies : List Reply) (told : Reply) → turn_lines SESSION (replies ++ told ∷ []) ≡ turn_lines SESSION replies ++ turn_line SESSION told
-turn_more replies told = flat_map-append (turn_line SESSION) replies (told ∷ []) ∙ ap (λ (t : List ℕ). turn_lines SESSION replies ++ t) (append-nil (turn_line SESSION told))
+turn_more : (replies : List Reply) (drawn : Reply) → turn_lines SESSION (replies ++ drawn ∷ []) ≡ turn_lines SESSION replies ++ turn_line SESSION drawn
+turn_more replies drawn = flat_map-append (turn_line SESSION) replies (drawn ∷ []) ∙ ap (λ (t : List ℕ). turn_lines SESSION replies ++ t) (append-nil (turn_line SESSION drawn))
 
 -- nothing is done yet
 pub turned_none : (old : Engine) (Leaves : List Line → List Reply → Type 0) (a : Option (List ℕ)) (buffer : List ℕ) → buffer ≡ [] → Leaves [] [] → Turned old old [] Leaves a a buffer
@@ -62,18 +62,18 @@ turned_leaves old new lines Leaves Then a b buffer then_leaves turned = record {
   leaves = then_leaves turned.replies turned.leaves;
 }
 
-module _ (old mid new : Engine) (lines : List Line) (said : Line) (told : Reply) (Leaves Then : List Line → List Reply → Type 0) (a b : Option (List ℕ)) (buffer : List ℕ)
-    (turned : Turned old mid lines Leaves a b buffer) (does : Does mid said told new) (leaves : Then (lines ++ said ∷ []) (turned.replies ++ told ∷ [])) where
+module _ (old mid new : Engine) (lines : List Line) (said : Line) (drawn : Reply) (Leaves Then : List Line → List Reply → Type 0) (a b : Option (List ℕ)) (buffer : List ℕ)
+    (turned : Turned old mid lines Leaves a b buffer) (does : Does mid said drawn new) (leaves : Then (lines ++ said ∷ []) (turned.replies ++ drawn ∷ [])) where
   -- one line more, whose reply goes into the buffer
-  pub turned_line : (c : Option (List ℕ)) (rest : List ℕ) → Moves b c (buffer ++ turn_line SESSION told) rest → Turned old new (lines ++ said ∷ []) Then a c rest
+  pub turned_line : (c : Option (List ℕ)) (rest : List ℕ) → Moves b c (buffer ++ turn_line SESSION drawn) rest → Turned old new (lines ++ said ∷ []) Then a c rest
   turned_line c rest moves = record {
-    replies = turned.replies ++ told ∷ [];
+    replies = turned.replies ++ drawn ∷ [];
     sent = turned.sent ++ moves.sent;
-    run = runs_on old mid new lines turned.replies said told turned.run does;
+    run = runs_on old mid new lines turned.replies said drawn turned.run does;
     took = Takes-append a b c turned.sent moves.sent turned.took moves.took;
     text =
-        append_assoc turned.sent moves.sent rest ∙ ap (λ (t : List ℕ). turned.sent ++ t) (sym moves.cut) ∙ sym (append_assoc turned.sent buffer (turn_line SESSION told))
-        ∙ ap (λ (t : List ℕ). t ++ turn_line SESSION told) turned.text ∙ sym (turn_more turned.replies told);
+        append_assoc turned.sent moves.sent rest ∙ ap (λ (t : List ℕ). turned.sent ++ t) (sym moves.cut) ∙ sym (append_assoc turned.sent buffer (turn_line SESSION drawn))
+        ∙ ap (λ (t : List ℕ). t ++ turn_line SESSION drawn) turned.text ∙ sym (turn_more turned.replies drawn);
     leaves = leaves;
   }
 
@@ -149,24 +149,24 @@ module _ (old : Engine) (lines : List Line) (Leaves : List Line → List Reply �
   }
 
   -- memory ran out when the reply to one line more was written
-  pub gathers_unshown : (Before : List Line → List Reply → Type 0) (mid new : Engine) (count : ℕ) (asked : Line) (told : Reply) (buffer kept : List ℕ) (turned : Turned old mid (take count lines) Before a b buffer) → Does mid asked told new
-      → take count lines ++ asked ∷ [] ≡ take (count + 1) lines → At (count + 1) (take count lines ++ asked ∷ []) (turned.replies ++ told ∷ []) → kept ≡ buffer → Gathered status.NoMemory kept
-  gathers_unshown Before mid new count asked told buffer kept turned does more leaves same = record {
+  pub gathers_unshown : (Before : List Line → List Reply → Type 0) (mid new : Engine) (count : ℕ) (asked : Line) (drawn : Reply) (buffer kept : List ℕ) (turned : Turned old mid (take count lines) Before a b buffer) → Does mid asked drawn new
+      → take count lines ++ asked ∷ [] ≡ take (count + 1) lines → At (count + 1) (take count lines ++ asked ∷ []) (turned.replies ++ drawn ∷ []) → kept ≡ buffer → Gathered status.NoMemory kept
+  gathers_unshown Before mid new count asked drawn buffer kept turned does more leaves same = record {
     sent = turned.sent;
     took = turned.took;
     written = (
       record {
         count = count + 1;
-        replies = turned.replies ++ told ∷ [];
+        replies = turned.replies ++ drawn ∷ [];
         last = new.session;
         used = used_by new;
-        run = subst (λ (l : List Line). LoggedRun MAX_LOG old.session (used_by old) l (turned.replies ++ told ∷ []) new.session (used_by new)) more (runs_on old mid new (take count lines) turned.replies asked told turned.run does);
-        leaves = subst (λ (l : List Line). At (count + 1) l (turned.replies ++ told ∷ [])) more leaves;
+        run = subst (λ (l : List Line). LoggedRun MAX_LOG old.session (used_by old) l (turned.replies ++ drawn ∷ []) new.session (used_by new)) more (runs_on old mid new (take count lines) turned.replies asked drawn turned.run does);
+        leaves = subst (λ (l : List Line). At (count + 1) l (turned.replies ++ drawn ∷ [])) more leaves;
       },
       (
         length turned.replies,
         ap (λ (t : List ℕ). (turned.sent ++ t) ++ error_line status.NoMemory) same ∙ ap (λ (t : List ℕ). t ++ error_line status.NoMemory) turned.text
-            ∙ ap (λ (r : List Reply). turn_lines SESSION r ++ error_line status.NoMemory) (sym (take_at turned.replies (told ∷ []) (length turned.replies) refl)),
+            ∙ ap (λ (r : List Reply). turn_lines SESSION r ++ error_line status.NoMemory) (sym (take_at turned.replies (drawn ∷ []) (length turned.replies) refl)),
       ),
     );
   }
@@ -200,21 +200,21 @@ module _ (old : Engine) (lines : List Line) (Leaves : List Line → List Reply �
 
 module _ (old : Engine) (lines : List Line) (Leaves : List Line → List Reply → Option Line → Type 0) (risen : Area → Type 0) (sink_failed : Type 0) (a b c : Option (List ℕ)) where
   -- a reply was not gathered, or not written
-  pub gathers_of_reply : (Before : List Line → List Reply → Type 0) (mid new : Engine) (count : ℕ) (asked : Line) (told : Reply) (buffer kept : List ℕ) (turned : Turned old mid (take count lines) Before a b buffer) → Does mid asked told new
-      → take count lines ++ asked ∷ [] ≡ take (count + 1) lines → Leaves (take count lines ++ asked ∷ []) (turned.replies ++ told ∷ []) (slice_get lines (count + 1))
+  pub gathers_of_reply : (Before : List Line → List Reply → Type 0) (mid new : Engine) (count : ℕ) (asked : Line) (drawn : Reply) (buffer kept : List ℕ) (turned : Turned old mid (take count lines) Before a b buffer) → Does mid asked drawn new
+      → take count lines ++ asked ∷ [] ≡ take (count + 1) lines → Leaves (take count lines ++ asked ∷ []) (turned.replies ++ drawn ∷ []) (slice_get lines (count + 1))
       → (answer : Status) → (answer ≡ status.NoMemory) ⊎ (answer ≡ status.Sink)
       → (answer ≡ status.NoMemory → (c ≡ b) × (kept ≡ buffer))
-      → (answer ≡ status.Sink → sink_failed × ((rest : List ℕ) × Moves b c (buffer ++ turn_line SESSION told) rest))
+      → (answer ≡ status.Sink → sink_failed × ((rest : List ℕ) × Moves b c (buffer ++ turn_line SESSION drawn) rest))
       → Gathers (RunText old.session (used_by old) lines Leaves risen) a c sink_failed answer kept
-  gathers_of_reply Before mid new count asked told buffer kept turned does more leaves answer (inl memory) no_memory broke =
+  gathers_of_reply Before mid new count asked drawn buffer kept turned does more leaves answer (inl memory) no_memory broke =
       let same = no_memory memory in
       subst (λ (s : Status). Gathers (RunText old.session (used_by old) lines Leaves risen) a c sink_failed s kept) (sym memory)
       (subst (λ (o : Option (List ℕ)). Gathers (RunText old.session (used_by old) lines Leaves risen) a o sink_failed status.NoMemory kept) (sym same.0)
-      (gathers_unshown old lines Leaves risen sink_failed a b Before mid new count asked told buffer kept turned does more leaves same.1))
-  gathers_of_reply Before mid new count asked told buffer kept turned does more leaves answer (inr sink) no_memory broke =
+      (gathers_unshown old lines Leaves risen sink_failed a b Before mid new count asked drawn buffer kept turned does more leaves same.1))
+  gathers_of_reply Before mid new count asked drawn buffer kept turned does more leaves answer (inr sink) no_memory broke =
       let cut = broke sink in
       let Then : List Line → List Reply → Type 0 = λ done replies. Leaves done replies (slice_get lines (count + 1)) in
-      let longer = turned_line old mid new (take count lines) asked told Before Then a b buffer turned does leaves c cut.1.0 cut.1.1 in
+      let longer = turned_line old mid new (take count lines) asked drawn Before Then a b buffer turned does leaves c cut.1.0 cut.1.1 in
       let whole = subst (λ (l : List Line). Turned old new l Then a c cut.1.0) more longer in
       subst (λ (s : Status). Gathers (RunText old.session (used_by old) lines Leaves risen) a c sink_failed s kept) (sym sink)
       (gathers_sink old lines Leaves risen sink_failed a c new (count + 1) cut.1.0 kept whole cut.0)

@@ -12,10 +12,10 @@ use Rattle.rm_restart.specs.declared.faults.RestartFault.TheVariants as restart
 use Rattle.rm_command.specs.declared.statuses.Status.{Status}
 use Rattle.rm_command.specs.declared.statuses.Status.TheVariants as status
 use Rattle.rm_command.specs.Status.{error_line, of_restart}
-use Rattle.rm_command.specs.Told.{Begins, is_sink, Owes}
+use Rattle.rm_command.specs.Output.{Begins, is_sink, Owes}
 use Rattle.rm_command.specs.Volumes.{RefusedText, RestartText, RestartDue}
 
--- the sink took a front of the text of a command that was done
+-- the sink took a prefix of the text of a command that was done
 pub owes_cut : (Due : Status → List ℕ → Type 0) (a b : Option (List ℕ)) (sink_failed : Type 0) (text : List ℕ) (count : ℕ) → sink_failed → Due status.Done text → Takes a b (take count text) → Owes Due a b sink_failed status.Sink
 owes_cut Due a b sink_failed text count failed due took = record {
   text = take count text;

@@ -27,8 +27,8 @@ pub record IsSettled (content : Image) : Type 0 where
   pub image : IsPlainImage content
   pub none : (id : ℕ) → pending_of (acts_of_batches image.batches) id ≡ []
 
--- With a right script, and a volume that is settled, or not made for `create`, a command is done, but for want of
--- memory; `turns` also but for want of log room or of ids.
+-- With a right script, and a volume that is settled, or not made for `create`, a command is done, but for out of
+-- memory; `turns` also but for a full log or spent ids.
 abbrev pub EndsRight : Option Command → Option (List ℕ) → Facts → Status → Type 0
 EndsRight None source volume answer = answer ≡ status.Usage
 EndsRight (Some command.Plain) source volume answer =

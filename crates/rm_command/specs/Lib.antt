@@ -1,5 +1,5 @@
 pub mod Status
-pub mod Told
+pub mod Output
 pub mod Commands
 pub mod Reading
 pub mod Running

@@ -31,9 +31,9 @@ IsDueFor bytes source_failed status.Done text = (replies : List Reply) × Draws 
 IsDueFor bytes source_failed (status.BadScript line) text = IsWithinLimits bytes × IsFirstWrong line bytes × (text ≡ error_line (status.BadScript line))
 IsDueFor bytes source_failed (status.Limit what) text = HasTooMuch bytes what × (text ≡ error_line (status.Limit what))
 IsDueFor bytes source_failed status.Source text = source_failed × (text ≡ error_line status.Source)
-IsDueFor bytes source_failed status.NoMemory text = (front : List ℕ) × BeginsReplies bytes front × (text ≡ front ++ error_line status.NoMemory)
+IsDueFor bytes source_failed status.NoMemory text = (prefix : List ℕ) × BeginsReplies bytes prefix × (text ≡ prefix ++ error_line status.NoMemory)
 IsDueFor bytes source_failed other text = ⊥
 
--- The same, for the bytes that the source had: those that it told if it told them.
+-- The same, for the bytes that the source had: those that it had, if it models them.
 abbrev pub PlainDue : Option (List ℕ) → Type 0 → Status → List ℕ → Type 0
 PlainDue left source_failed answer text = (bytes : List ℕ) × HasLeft left bytes × IsDueFor bytes source_failed answer text

@@ -6,13 +6,13 @@ use Rattle.rm_session.specs.Session.{State, Run}
 use Rattle.rm_script.specs.Texts.{texts_of}
 use Rattle.rm_outside.specs.Streams.{Takes}
 
--- The sink takes a front of a buffer, and the buffer keeps the rest.
+-- The sink takes a prefix of a buffer, and the buffer keeps the rest.
 pub record Moves (before after : Option (List ℕ)) (buffer rest : List ℕ) : Type 0 where
   pub sent : List ℕ
   pub cut : buffer ≡ sent ++ rest
   pub took : Takes before after sent
 
--- The session did the lines. The sink took a front of their replies' text, and the buffer has the rest.
+-- The session did the lines. The sink took a prefix of their replies' text, and the buffer has the rest.
 pub record Did (old new : State) (lines : List Line) (before after : Option (List ℕ)) (buffer : List ℕ) : Type 0 where
   pub replies : List Reply
   pub sent : List ℕ

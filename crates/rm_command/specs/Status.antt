@@ -47,7 +47,7 @@ area_name area.Data = codes "data"
 area_name area.Space = codes "space"
 area_name area.Copy = codes "copy"
 
--- the line that a status is told by: none for a command that was done, and none where the sink fails
+-- the line that explains a status: none for a command that was done, and none where the sink fails
 abbrev pub error_line : Status → List ℕ
 error_line status.Done = []
 error_line status.Usage = codes "error 2 usage\n"

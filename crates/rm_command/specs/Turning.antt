@@ -16,7 +16,7 @@ use Rattle.rm_command.specs.declared.turns.TheConstants.{SESSION}
 use Rattle.rm_command.specs.declared.statuses.Status.{Status}
 use Rattle.rm_command.specs.Status.{error_line}
 use Rattle.rm_command.specs.Turns.{HasAsked}
-use Rattle.rm_command.specs.Told.{Begins, is_sink}
+use Rattle.rm_command.specs.Output.{Begins, is_sink}
 
 -- how much of the log the session uses
 abbrev pub used_by : Engine → Used
@@ -34,7 +34,7 @@ LeavesRun from old new lines replies next = (pages count : ℕ) (rows : Rows)
     → IsAt pages count rows from.session.core from.log from.under.0 from.inserts old.may_leave → from.session.core.active ≡ false
     → AllLeft old new (HasAsked count rows lines replies next) × ((c : Image) → new.may_leave c → HasAcknowledged count rows lines replies c)
 
--- The session did the lines, and each had room in the log. The sink took a front of their replies' text, and the buffer has the rest.
+-- The session did the lines, and each had room in the log. The sink took a prefix of their replies' text, and the buffer has the rest.
 pub record Turned (old new : Engine) (lines : List Line) (Leaves : List Line → List Reply → Type 0) (before after : Option (List ℕ)) (buffer : List ℕ) : Type 0 where
   pub replies : List Reply
   pub sent : List ℕ
@@ -43,8 +43,8 @@ pub record Turned (old new : Engine) (lines : List Line) (Leaves : List Line →
   pub text : sent ++ buffer ≡ turn_lines SESSION replies
   pub leaves : Leaves lines replies
 
--- The sink took a front of what is due but for the line that tells of the status, and the buffer has the rest; or
--- the sink failed, and it has a front of what was due.
+-- The sink took a prefix of what is due but for the line that explains the status, and the buffer has the rest; or
+-- the sink failed, and it has a prefix of what was due.
 pub record Gathers (Due : Status → List ℕ → Type 0) (before after : Option (List ℕ)) (sink_failed : Type 0) (answer : Status) (buffer : List ℕ) : Type 0 where
   pub sent : List ℕ
   pub took : Takes before after sent

@@ -30,7 +30,7 @@ use Rattle.rm_command.specs.Status.{error_line}
 use Rattle.rm_command.specs.Reading.{HasLeft}
 use Rattle.rm_command.specs.Volumes.{RefusedText, ChangesBy}
 
--- A session did the first so many of the lines, from this state and this use of the log to that one, and this holds
+-- A session did the first `count` of the lines, from this state and this use of the log to that one, and this holds
 -- of its replies and of the line after them.
 pub record RunTo (first : State) (start : Used) (lines : List Line) (Leaves : List Line → List Reply → Option Line → Type 0) : Type 0 where
   pub count : ℕ

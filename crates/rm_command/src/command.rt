@@ -8,7 +8,7 @@ ghost use Rattle.rm_outside.specs.Calls.{facts_of, HasFailed};
 ghost use Rattle.rm_command.specs.declared.commands.Command.{Command as Commands};
 ghost use Rattle.rm_command.specs.Commands.{IsCommand, Names, TakesScript, HasScript};
 ghost use Rattle.rm_command.specs.Reading.{IsReadToEnd};
-ghost use Rattle.rm_command.specs.Told.{Owes, Answers, Tells};
+ghost use Rattle.rm_command.specs.Output.{Owes, Answers, Reports};
 ghost use Rattle.rm_command.specs.Plain.{PlainDue};
 ghost use Rattle.rm_command.specs.Complete.{EndsRight};
 ghost use Rattle.rm_command.specs.Due.{DueFor, AsksRight};
@@ -25,7 +25,7 @@ use rm_outside::{Failed, Sink, Source, Volume};
 use rm_script::read_plain;
 use std::alloc::Global;
 
-/// Does the command `plain`, all but the line that tells of a status.
+/// Does the command `plain`, all but the line that explains a status.
 fn plain<S: Source, K: Sink>(alloc: Global, script: &mut S, out: &mut K) -> Status
     ensures owes { Owes (PlainDue (S.left script.old) (Rises (S.faults script.old) (S.faults script.new))) (K.taken out.old) (K.taken out.new)
         (Rises (K.faults out.old) (K.faults out.new)) result }
@@ -49,7 +49,7 @@ fn plain<S: Source, K: Sink>(alloc: Global, script: &mut S, out: &mut K) -> Stat
     }
 }
 
-/// Does a command, or none, all but the line that tells of a status.
+/// Does a command, or none, all but the line that explains a status.
 fn do_command<V: Volume, S: Source, K: Sink>(
     alloc: Global,
     command: Option<Command>,
@@ -78,8 +78,8 @@ fn do_command<V: Volume, S: Source, K: Sink>(
 }
 
 /// Writes the line of a status, and returns that status, or [`Status::Sink`] where the sink fails.
-pub fn tell<K: Sink>(status: Status, out: &mut K) -> Status
-    ensures told { Tells (K.taken out.old) (K.taken out.new) (Rises (K.faults out.old) (K.faults out.new)) status result }
+pub fn write_status<K: Sink>(status: Status, out: &mut K) -> Status
+    ensures written { Reports (K.taken out.old) (K.taken out.new) (Rises (K.faults out.old) (K.faults out.new)) status result }
     ensures kept { K.faults out.old ≤ K.faults out.new }
 {
     match write_all(out, status.line().as_str().as_bytes()) {
@@ -92,7 +92,7 @@ pub fn tell<K: Sink>(status: Status, out: &mut K) -> Status
 ///
 /// The words are tested first; words that are no command have no effect but the line that says so. Of a
 /// script the source fails first if it does, then the limits are tested, bytes before lines, and then the
-/// lines, before any of them is done. A status other than [`Status::Done`] and [`Status::Sink`] is told by
+/// lines, before any of them is done. A status other than [`Status::Done`] and [`Status::Sink`] is explained by
 /// one last line.
 pub fn run_command<V: Volume, S: Source, K: Sink>(
     alloc: Global,
@@ -121,5 +121,5 @@ pub fn run_command<V: Volume, S: Source, K: Sink>(
 {
     let command = command_of(words);
     let status = do_command(alloc, command, volume, script, out);
-    tell(status, out)
+    write_status(status, out)
 }

@@ -12,11 +12,11 @@ use rm_types::MAX_PAGES;
 pub enum Command {
     /// Runs a script over pages in memory.
     Plain,
-    /// Makes a volume of so many pages.
+    /// Makes a volume of this many pages.
     Create { pages: u32 },
     /// Runs a script over the volume.
     Turns,
-    /// Opens the volume and tells what its log had.
+    /// Opens the volume and reports what its log had.
     Restart,
 }
 

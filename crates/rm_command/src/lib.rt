@@ -15,5 +15,5 @@ mod turns;
 mod volumes;
 mod writing;
 
-pub use command::{run_command, tell};
+pub use command::{run_command, write_status};
 pub use statuses::Status;

@@ -41,7 +41,7 @@ fn do_lines<K: Sink>(
 }
 
 /// Does the lines of a new session, and writes their replies: all of them, or where memory runs out those of
-/// the first lines, or with a sink that fails a front of them.
+/// the first lines, or with a sink that fails a prefix of them.
 pub fn run_lines<K: Sink>(alloc: Global, lines: &[Line], out: &mut K) -> Result<(), Stop>
     requires { length lines.now < 2 ^ 31 }
 

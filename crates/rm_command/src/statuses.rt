@@ -2,7 +2,7 @@
 
 ghost use Rattle.std.specs.Prelude.{◌≡◌};
 ghost use Rattle.rm_command.specs.Status.{number_of, area_name, error_line, status_of, of_fault, of_create, of_restart, of_turn};
-ghost use Rattle.rm_command.specs.Told.{is_sink};
+ghost use Rattle.rm_command.specs.Output.{is_sink};
 ghost use Rattle.rm_command.specs.declared.statuses.Status.TheVariants.{NoMemory as no_memory};
 
 use arrayvec::ArrayString;
@@ -35,7 +35,7 @@ pub enum Status {
     NotMade,
     /// The volume is made already.
     AlreadyMade,
-    /// What stands at that place of the volume is not what belongs there.
+    /// What stands at that place of the volume is damaged.
     Damaged { area: Area, at: u64 },
     /// The script has too much of that.
     Limit { which: Which },
@@ -163,7 +163,7 @@ impl Status {
         }
     }
 
-    /// The line that tells of it, which is empty for [`Status::Done`] and [`Status::Sink`]
+    /// The line that explains it, which is empty for [`Status::Done`] and [`Status::Sink`]
     /// (docs/FORMATS.md, "Statuses"). It takes no memory, so that it can be written where memory ran out.
     pub fn line(self) -> ArrayString<LINE_ROOM>
         ensures { result.bytes ≡ error_line self }

@@ -11,7 +11,7 @@ ghost use Rattle.rm_script.specs.Texts.{turn_line};
 ghost use Rattle.rm_engine.specs.Numbers.{IsReady};
 ghost use Rattle.rm_command.specs.Reading.{IsReadToEnd};
 ghost use Rattle.rm_command.specs.Running.{Moves};
-ghost use Rattle.rm_command.specs.Told.{Owes};
+ghost use Rattle.rm_command.specs.Output.{Owes};
 ghost use Rattle.rm_command.specs.Turns.{RunText, unfinished_of, LinesDue, TurnsDue};
 ghost use Rattle.rm_command.specs.Turning.{used_by, LeavesRun, Turned, Gathers};
 
@@ -31,9 +31,9 @@ use std::alloc::Global;
 pub const SESSION: u8 = 1;
 
 /// Gathers a reply's line in `text`, and writes what was gathered: after a commit, or once it is long.
-fn tell_reply<K: Sink>(reply: &Reply, text: &mut Vec<u8>, out: &mut K) -> Result<(), Status>
+fn write_reply<K: Sink>(reply: &Reply, text: &mut Vec<u8>, out: &mut K) -> Result<(), Status>
     ensures ok { OnOk result (Moves (K.taken out.old) (K.taken out.new) (text.old.items ++ turn_line SESSION reply.now) text.new.items) }
-    ensures told { OnOk result (reply.now ≡ Reply.Committed → text.new.items ≡ []) }
+    ensures sent { OnOk result (reply.now ≡ Reply.Committed → text.new.items ≡ []) }
     ensures errors { IfErr result (λ status. (status ≡ Status.NoMemory) ⊎ (status ≡ Status.Sink)) }
     ensures no_memory { IsErrOf result Status.NoMemory → (out.new ≡ out.old) × (text.new.items ≡ text.old.items) }
     ensures broke { IsErrOf result Status.Sink → (rest : List ℕ) × Moves (K.taken out.old) (K.taken out.new) (text.old.items ++ turn_line SESSION reply.now) rest }
@@ -52,7 +52,7 @@ fn tell_reply<K: Sink>(reply: &Reply, text: &mut Vec<u8>, out: &mut K) -> Result
 }
 
 /// Gathers the line of a transaction that the session still has.
-fn tell_unfinished(session: &Session, text: &mut Vec<u8>) -> Result<(), Status>
+fn write_unfinished(session: &Session, text: &mut Vec<u8>) -> Result<(), Status>
     requires first { 1 ≤ session.now.core.next }
     requires ids { session.now.core.next ≤ 2 ^ 32 }
     ensures ok { OnOk result (text.new.items ≡ text.old.items ++ unfinished_of session.now) }
@@ -92,7 +92,7 @@ fn do_turns<V: Volume, K: Sink>(
 {
     for line in lines {
         let reply = engine.turn(volume, line)?;
-        tell_reply(&reply, text, out)?;
+        write_reply(&reply, text, out)?;
     }
     Ok(())
 }
@@ -118,7 +118,7 @@ fn do_session<V: Volume, K: Sink>(
     ensures kept { K.faults out.old ≤ K.faults out.new }
 {
     match do_turns(engine, lines, volume, text, out) {
-        Ok(()) => match tell_unfinished(&engine.session, text) {
+        Ok(()) => match write_unfinished(&engine.session, text) {
             Ok(()) => Status::Done,
             Err(status) => status,
         },
@@ -126,7 +126,7 @@ fn do_session<V: Volume, K: Sink>(
     }
 }
 
-/// Opens the volume and does the lines, all but the line that tells of a status.
+/// Opens the volume and does the lines, all but the line that explains a status.
 fn do_lines<V: Volume, K: Sink>(
     alloc: Global,
     lines: &[Line],
@@ -153,7 +153,7 @@ fn do_lines<V: Volume, K: Sink>(
     }
 }
 
-/// Does the command `turns`, all but the line that tells of a status.
+/// Does the command `turns`, all but the line that explains a status.
 pub fn turns<V: Volume, S: Source, K: Sink>(
     alloc: Global,
     volume: &mut V,

@@ -4,7 +4,7 @@ ghost use Rattle.std.specs.Prelude.{◌≡◌, ◌≤◌, IsTrue};
 ghost use Rattle.rm_types.specs.declared.numbers.TheConstants.{MAX_PAGES};
 ghost use Rattle.rm_outside.specs.Faults.{Rises};
 ghost use Rattle.rm_outside.specs.Calls.{facts_of};
-ghost use Rattle.rm_command.specs.Told.{Owes};
+ghost use Rattle.rm_command.specs.Output.{Owes};
 ghost use Rattle.rm_command.specs.Volumes.{CreateDue, RestartDue};
 
 use crate::statuses::Status;
@@ -16,7 +16,7 @@ use rm_script::{created_text, restart_text};
 use rm_types::MAX_LOG;
 use std::alloc::Global;
 
-/// Does the command `create`, all but the line that tells of a status. Its text is made first, so that want
+/// Does the command `create`, all but the line that explains a status. Its text is made first, so that running out
 /// of memory leaves the volume as it was.
 pub fn create<V: Volume, K: Sink>(alloc: Global, pages: u32, volume: &mut V, out: &mut K) -> Status
     requires { (1 ≤ pages) × (pages ≤ MAX_PAGES) }
@@ -37,7 +37,7 @@ pub fn create<V: Volume, K: Sink>(alloc: Global, pages: u32, volume: &mut V, out
     }
 }
 
-/// Does the command `restart`, all but the line that tells of a status.
+/// Does the command `restart`, all but the line that explains a status.
 pub fn open<V: Volume, K: Sink>(alloc: Global, volume: &mut V, out: &mut K) -> Status
     ensures owes { Owes (RestartDue (facts_of V.Volume volume.old) (facts_of V.Volume volume.new))
         (K.taken out.old) (K.taken out.new) (Rises (K.faults out.old) (K.faults out.new)) result }

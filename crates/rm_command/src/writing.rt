@@ -10,7 +10,7 @@ use rm_outside::{Failed, Sink};
 /// How many bytes of text are gathered before they are written.
 const BUFFER: usize = 65_536;
 
-/// Writes all of the text. A sink that fails, or takes nothing, has a front of it.
+/// Writes all of the text. A sink that fails, or takes nothing, has a prefix of it.
 pub fn write_all<K: Sink>(out: &mut K, text: &[u8]) -> Result<(), Failed>
     ensures ok { OnOk result (Takes (K.taken out.old) (K.taken out.new) text.now) }
     ensures err { OnErr result ((count : ℕ) × Takes (K.taken out.old) (K.taken out.new) (take count text.now)) }

@@ -82,7 +82,7 @@ module _ (pages count : ℕ) (rows : Rows) (core : Core) (log : LogValue) (under
       record {
         rules = (at.at_history.in_order, at.at_history.plain);
         below = at.at_history.below;
-        room = omega (arith, undo, open_now.inserts_are, end_is, ready.room_behind active some, ready.limit);
+        room = omega (arith, undo, open_now.inserts_are, end_is, ready.room_after active some, ready.limit);
       }
 
   -- what a crash during such a flush may leave has the same rows
@@ -111,7 +111,7 @@ module _ (pages count : ℕ) (rows : Rows) (core : Core) (log : LogValue) (under
         image_with_log pages at.batches (at.tail ∷ at.batches) from.0 c (at.images from.0 from.1) from.2 (logs c now);
     commits_stand = at.at_history.commits_are;
     rows_stand = at.at_history.rows_are;
-    nothing_behind = λ idle. refl;
+    idle_tail = λ idle. refl;
     at_history = at.at_history;
   }
 
@@ -127,7 +127,7 @@ module _ (pages count : ℕ) (rows : Rows) (core : Core) (log : LogValue) (under
     images = at.images;
     commits_stand = at.commits_stand;
     rows_stand = at.rows_stand;
-    nothing_behind = λ active. absurd (true≢false active);
+    idle_tail = λ active. absurd (true≢false active);
     at_history = begun pages count rows core under inserts (whole_history at.batches at.tail) at.at_history idle;
   }
 
@@ -159,12 +159,12 @@ module _ (pages count : ℕ) (rows : Rows) (core : Core) (log : LogValue) (under
     images = at.images;
     commits_stand = at.commits_stand;
     rows_stand = at.rows_stand;
-    nothing_behind = λ idle. absurd (true≢false (sym active ∙ idle));
+    idle_tail = λ idle. absurd (true≢false (sym active ∙ idle));
     at_history = subst (IsAtHistory pages count rows (record core { pages = set_row core.pages rid row }) lsn.0 (inserts + 1)) (sym (grown lsn.0 (Insert txn last rid 0 row) lsn_is))
         (inserted pages count rows core under inserts (whole_history at.batches at.tail) at.at_history lsn.0 txn last rid row active place txn_is last_is some_id (omega (arith, above, lsn_is)));
   }
 
-  -- the transaction's commit record is put behind the tail
+  -- the transaction's commit record is put after the tail
   module _ (txn : TxnId) (active : core.active ≡ true) (txn_is : txn.0 ≡ core.next - 1) (some_id : 1 ≤ core.next) (ready : IsReady core log inserts) (is_record : IsRecord (Commit txn)) where
     abbrev closing : Batch
     closing = at.tail ++ Commit txn ∷ []
@@ -213,7 +213,7 @@ module _ (pages count : ℕ) (rows : Rows) (core : Core) (log : LogValue) (under
         inr (holds_of pages (count + 1) (rows_of core.pages) (closing ∷ at.batches) c (image_with_log pages at.batches (closing ∷ at.batches) comes.0 c (at.images comes.0 comes.1) same new)
         sound_closing after.commits_are after.rows_are)
 
-    -- and once it is durable the session stands behind it
+    -- and once it is durable the session stands after it
     pub at_committed : (leaves : Image → Type 0) → ((c : Image) → leaves c → HasLog (c Log) ((at.tail ++ Commit txn ∷ []) ∷ at.batches))
         → ((c : Image) → leaves c → ComesByFlush log.batch (written_tail (log.tail ++ spelling (Commit txn))) left c)
         → IsAt pages (count + 1) (rows_of core.pages) (record core { active = false })
@@ -231,6 +231,6 @@ module _ (pages count : ℕ) (rows : Rows) (core : Core) (log : LogValue) (under
           image_with_log pages at.batches (closing ∷ at.batches) by.0 c (at.images by.0 by.1) same (logs c now);
       commits_stand = after.commits_are;
       rows_stand = after.rows_are;
-      nothing_behind = λ idle. refl;
+      idle_tail = λ idle. refl;
       at_history = after;
     }

@@ -25,5 +25,5 @@ both one other = record {
 pub active_of_tail : (pages count : ℕ) (rows : Rows) (core : Core) (log : LogValue) (under inserts : ℕ) (left : Image → Type 0) → IsAt pages count rows core log under inserts left → 0 < length log.tail → core.active ≡ true
 active_of_tail pages count rows core log under inserts left at some = elim (cases_Bool core.active) [
   | inl active ↦ active
-  | inr idle ↦ absurd (omega (arith, ap (λ (l : List ℕ). length l) (at.tail_is ∙ ap spelling_all (at.nothing_behind idle)), some))
+  | inr idle ↦ absurd (omega (arith, ap (λ (l : List ℕ). length l) (at.tail_is ∙ ap spelling_all (at.idle_tail idle)), some))
 ]

@@ -64,7 +64,7 @@ module _ (told : Type 0) (content : Image) (limit : ℕ) (pages : List (List Slo
     images = images;
     commits_stand = refl;
     rows_stand = refl;
-    nothing_behind = λ idle. refl;
+    idle_tail = λ idle. refl;
     at_history = record {
       in_order = sound.rules.0;
       plain = sound.rules.1;

@@ -55,14 +55,14 @@ busy = record { pages = [] ∷ []; next = 2; active = true }
 first_page : IsFirstWithRoom busy.pages 2 0
 first_page = record { in_file = lit< tt; room = omega arith; first = λ before lt. absurd (omega (arith, lt)) }
 
--- a begin wants 64 bytes behind the end
+-- a begin needs 64 bytes after the end
 begin_lacks : LacksRoom 68 idle start line.Begin 5
 begin_lacks = (refl, lit< tt, refl, lit< tt)
 
 begin_fits : HasLogRoom 69 idle start line.Begin
 begin_fits = λ end lacks. omega (arith, lacks.2, lacks.3)
 
--- the insert wants its record of 25 bytes, 32 more, and the 128 that are owed with it
+-- the insert needs its record of 25 bytes, 32 more, and the 128 that are owed with it
 insert_lacks : LacksRoom 189 busy start (line.Insert 0 row) 5
 insert_lacks = ((refl, (0, first_page)), refl, lit< tt)
 

@@ -64,7 +64,7 @@ module _ (file_pages count : ℕ) (rows : Rows) (core : Core) (under inserts : �
         });
       }
 
-  -- a row is put behind the directory of a page with room
+  -- a row is put after the directory of a page with room
   module _ (lsn : ℕ) (txn : TxnId) (last : Lsn) (rid : Rid) (row : List ℕ) (active : core.active ≡ true) (place : IsPlaceFor core.pages (length row) rid)
       (txn_is : txn.0 ≡ core.next - 1) (last_is : last.0 ≡ under) (some_id : 1 ≤ core.next) (above : newest_lsn history < lsn) where
     abbrev change : Change

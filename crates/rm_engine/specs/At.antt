@@ -38,7 +38,7 @@ pub record IsIdle (history : History) (pages : List (List Slot)) (rows : Rows) :
   pub none : (id : ℕ) → pending_of history id ≡ []
   pub shown : rows_of pages ≡ rows
 
--- The session's pages are those of the history, which is in order and plain, and has so many commits and these rows.
+-- The session's pages are those of the history, which is in order and plain, and has `count` commits and these rows.
 pub record IsAtHistory (file_pages count : ℕ) (rows : Rows) (core : Core) (under inserts : ℕ) (history : History) : Type 0 where
   pub in_order : IsInOrder history
   pub plain : ArePlain history
@@ -51,11 +51,11 @@ pub record IsAtHistory (file_pages count : ℕ) (rows : Rows) (core : Core) (und
   pub idle : core.active ≡ false → IsIdle history core.pages rows
   pub busy : core.active ≡ true → IsOpen history (core.next - 1) core.pages rows under inserts
 
--- the history of the batches that stand, and of the tail behind them
+-- the history of the batches that stand, and of the tail after them
 abbrev pub whole_history : List Batch → Batch → History
 whole_history batches tail = acts_after (acts_of_batches batches) (gate_of batches + BATCH_HEADER) tail
 
--- The session stands behind so many commits, which left these rows; each image that a crash may leave has them.
+-- The session stands after `count` commits, which left these rows; each image that a crash may leave has them.
 pub record IsAt (file_pages count : ℕ) (rows : Rows) (core : Core) (log : LogValue) (under inserts : ℕ) (left : Image → Type 0) : Type 0 where
   pub batches : List Batch
   pub tail : Batch
@@ -66,7 +66,7 @@ pub record IsAt (file_pages count : ℕ) (rows : Rows) (core : Core) (log : LogV
   pub images : (c : Image) → left c → IsImageOf file_pages batches c
   pub commits_stand : commit_count (acts_of_batches batches) ≡ count
   pub rows_stand : rows_of_log (acts_of_batches batches) ≡ rows
-  pub nothing_behind : core.active ≡ false → tail ≡ []
+  pub idle_tail : core.active ≡ false → tail ≡ []
   pub at_history : IsAtHistory file_pages count rows core under inserts (whole_history batches tail)
 
 -- how many commits there are after a reply
@@ -88,7 +88,7 @@ IsCommitOf core other = ⊥
 abbrev pub LeftByTurn : ℕ → Rows → Core → Line → Image → Type 0
 LeftByTurn count rows core asked c = Holds count rows c ⊎ (IsCommitOf core asked × Holds (count + 1) (rows_of core.pages) c)
 
--- the reply tells of no change
+-- the reply is of no change
 abbrev pub NotChanged : Reply → Type 0
 NotChanged (reply.Began id) = ⊥
 NotChanged (reply.Inserted rid) = ⊥

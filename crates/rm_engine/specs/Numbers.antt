@@ -15,11 +15,11 @@ use Rattle.rm_types.specs.declared.operations.Reply.{Reply}
 use Rattle.rm_types.specs.declared.operations.Reply.TheVariants as reply
 use Rattle.rm_engine.specs.declared.room.TheConstants.{OWED, CHANGE_COST, INSERT_SIZE, COMMIT_SIZE}
 
--- what a transaction with so many pending inserts owes
+-- what a transaction with this many pending inserts owes
 abbrev pub owed_by : ℕ → ℕ
 owed_by inserts = OWED + OWED * inserts
 
--- what an insert of so many bytes costs
+-- what an insert of this many bytes costs
 abbrev pub cost_of : ℕ → ℕ
 cost_of len = INSERT_SIZE + len + CHANGE_COST
 
@@ -34,7 +34,7 @@ pub record Used : Type 0 where
   pub tail : ℕ
   pub inserts : ℕ
 
--- what a session with this log and so many inserts uses
+-- what a session with this log and this many inserts uses
 abbrev pub used_of : LogValue → ℕ → Used
 used_of log inserts = record { batch = log.batch; tail = length log.tail; inserts = inserts }
 
@@ -46,7 +46,7 @@ next_at used = used.batch + (BATCH_HEADER + used.tail)
 abbrev pub flushed : Used → Used
 flushed used = if nat_lt LONG_TAIL used.tail then record used { batch = next_at used; tail = 0 } else used
 
--- with an insert's record for a row of so many bytes in the tail
+-- with an insert's record for a row of this many bytes in the tail
 abbrev pub with_insert : ℕ → Used → Used
 with_insert len used = record used { tail = used.tail + (INSERT_SIZE + len); inserts = used.inserts + 1 }
 
@@ -54,7 +54,7 @@ with_insert len used = record used { tail = used.tail + (INSERT_SIZE + len); ins
 abbrev pub with_commit : Used → Used
 with_commit used = record used { batch = next_at used + COMMIT_SIZE; tail = 0 }
 
--- What is used behind a line and its reply: a begin has no inserts yet, and where a record is logged a long tail is
+-- What is used after a line and its reply: a begin has no inserts yet, and where a record is logged a long tail is
 -- flushed before.
 abbrev pub used_after : Line → Reply → Used → Used
 used_after line.Begin (reply.Began id) used = record used { inserts = 0 }
@@ -70,7 +70,7 @@ pub record IsReady (core : Core) (log : LogValue) (inserts : ℕ) : Type 0 where
   pub limit : log.limit ≤ MAX_LOG
   pub began : core.active ≡ true → 1 < core.next
   pub room : core.active ≡ true → end_of log + (OWED + OWED * inserts) ≤ log.limit + BATCH_HEADER
-  pub room_behind : core.active ≡ true → 0 < length log.tail → end_of log + (OWED + OWED * inserts) ≤ log.limit
+  pub room_after : core.active ≡ true → 0 < length log.tail → end_of log + (OWED + OWED * inserts) ≤ log.limit
 
 -- The line's turn has room in the log.
 abbrev pub HasRoom : Core → LogValue → ℕ → Line → Type 0
@@ -80,7 +80,7 @@ HasRoom core log inserts (line.Insert name row) = core.active ≡ true → (page
 HasRoom core log inserts (line.Read target) = Unit {0}
 HasRoom core log inserts line.Commit = core.active ≡ true → length log.tail ≤ LONG_TAIL
 
--- a row of so many bytes has a place, and a transaction to put it there
+-- a row of this many bytes has a place, and a transaction to put it there
 abbrev pub HasPlace : Core → ℕ → Type 0
 HasPlace core len = (core.active ≡ true) × ((page : ℕ) × IsFirstWithRoom core.pages len page)
 

@@ -89,7 +89,7 @@ impl Engine {
         Ok(())
     }
 
-    /// Makes room for the record of an insert of so many bytes, if there is a place for it.
+    /// Makes room for the record of an insert of this many bytes, if there is a place for it.
     fn room_to_insert<V: Volume>(&mut self, volume: &mut V, len: usize) -> Result<(), TurnFault>
         requires len { len ≤ MAX_ROW }
         requires ready { IsReady self.old.session.core self.old.log self.old.inserts }

@@ -24,7 +24,7 @@ pub const INSERT_SIZE: u64 = 23;
 /// A commit's record, in bytes.
 pub const COMMIT_SIZE: u64 = 5;
 
-/// What a transaction with so many pending inserts owes.
+/// What a transaction with this many pending inserts owes.
 pub fn owed(inserts: u64) -> u64
     requires { inserts < 2 ^ 50 }
     ensures { result ≡ owed_by inserts }
@@ -32,7 +32,7 @@ pub fn owed(inserts: u64) -> u64
     OWED + OWED * inserts
 }
 
-/// What an insert of so many bytes costs.
+/// What an insert of this many bytes costs.
 pub fn insert_cost(len: usize) -> u64
     requires { len ≤ MAX_ROW }
     ensures { result ≡ cost_of len }

@@ -75,7 +75,7 @@ done_alike start history other new newer last alike one two = record {
 
 -- ---- the undo of a history with some LSNs is one of its undos
 
--- before it the entry of its page is set, where that is wanted,
+-- before it the entry of its page is set, where that is needed,
 settles_some : (start : Format) (history : History) (last : Change) → Settles start history last (with_entry start history last)
 settles_some start history last = elim (cases_eq (entry_of history last.rid.page) (category_after start history last)) [
   | inl right ↦ inl (right, rw (eq-eqb (entry_of history last.rid.page) (category_after start history last) right))

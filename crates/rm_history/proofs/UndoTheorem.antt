@@ -35,7 +35,7 @@ entries_follow start (act ∷ before) legal = legal.2.follow
 
 -- ---- the page's entry
 
--- the record that enters what undoing the change wants may come, and keeps the inventory
+-- the record that enters what undoing the change needs may come, and keeps the inventory
 entry_is_legal : (start : Format) (before : History) (last : Change) (rest : List Change) (lsn : ℕ) → IsLegal start before
     → (IsFinished before last.txn → ⊥) → pending_of before last.txn ≡ last ∷ rest → newest_lsn before < lsn
     → (entry_of before last.rid.page ≡ category_after start before last → ⊥) → IsLegal start (enters (entry_for start lsn before last) ∷ before)

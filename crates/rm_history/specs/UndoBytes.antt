@@ -29,7 +29,7 @@ bytes_of logged = length (spelling logged) + BATCH_HEADER
 abbrev pub some_lsn : History → ℕ
 some_lsn history = newest_lsn history + 1
 
--- the history with the change's page entered, where that is wanted, and with the change undone
+-- the history with the change's page entered, where that is needed, and with the change undone
 abbrev pub with_entry : Format → History → Change → History
 with_entry start history last =
     if entry_of history last.rid.page == category_after start history last then history else enters (entry_for start (some_lsn history) history last) ∷ history

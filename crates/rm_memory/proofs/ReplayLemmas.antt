@@ -100,7 +100,7 @@ module _ (notes : List Note) (bytes : List ℕ) (index start : ℕ) (note : Note
       ap (λ (later : Area → Bool). left outcome base (history (take index notes) (take start bytes)) later) later_sync
       ∙ ap (λ (es : List Event). left outcome base es (synced_in (drop (index + 1) notes))) (sym history_sync)
 
--- before the first note and behind the last
+-- before the first note and after the last
 pub total_none : 0 ≡ total []
 unfolding total
 total_none = refl

@@ -31,7 +31,7 @@ bit outcome i = (outcome / 2 ^ i) % 2 == 1
 abbrev pub applies : ℕ → ℕ → Bool → Bool → Bool
 applies outcome number synced took = if synced then took else bit outcome (number % CHOICES)
 
--- The range of a write that is not applied is filled: where the bit behind the choices is set, outside the areas of blocks.
+-- The range of a write that is not applied is filled: where the bit after the choices is set, outside the areas of blocks.
 abbrev pub fills : ℕ → Bool → Area → Bool
 fills outcome synced area = not synced && (bit outcome CHOICES && not (is_blocked area))
 

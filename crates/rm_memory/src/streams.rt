@@ -11,7 +11,7 @@ use rm_outside::{Failed, Sink, Source};
 use std::alloc::Global;
 
 /// A source of bytes that models what is left. It gives as many bytes as there is room for, and fails at the
-/// reads that it was told.
+/// reads that it was given.
 #[derive(Debug, Drop)]
 pub struct MemSource {
     bytes: Vec<u8>,
@@ -72,7 +72,7 @@ impl Source for MemSource {
 }
 
 /// A sink that keeps what it takes, and models it. It takes all that it is given; it fails at the writes that it
-/// was told, and where memory runs out.
+/// was asked for, and where memory runs out.
 #[derive(Debug, Drop)]
 pub struct MemSink {
     bytes: Vec<u8>,

@@ -19,7 +19,7 @@ use rm_types::{Area, NoMemory};
 use std::alloc::Global;
 
 /// A volume in memory that models its content. It notes each write and each sync, so that it can give any image
-/// that a crash may leave. Calls fail where they were told to ([`MemVolume::fail_call`], [`MemVolume::stop_at`]),
+/// that a crash may leave. Calls fail where that was asked for ([`MemVolume::fail_call`], [`MemVolume::stop_at`]),
 /// and a write or a sync also where memory runs out.
 ///
 /// A write that fails is an unsynced write, of which a read gives nothing, unless memory ran out for it or the

@@ -53,22 +53,22 @@ acts_of-next records i logged inside is =
     ap (λ (n : ℕ). acts_of (take n records)) one
     ∙ ap acts_of (take-suc records i logged inside) ∙ acts_of-snoc (take i records) (get_or records i logged) ∙ ap (λ (l : Logged). act_of l ∷ acts_of (take i records)) (sym is)
 
--- what is behind a history
-acts_onto-behind : (history : History) (log : List Logged) → (more : History) × (acts_onto history log ≡ more ++ history)
-acts_onto-behind history [] = ([], refl)
-acts_onto-behind history (oldest ∷ log) =
-    let rest = acts_onto-behind (act_of oldest ∷ history) log in
+-- what is after a history
+acts_onto-after : (history : History) (log : List Logged) → (more : History) × (acts_onto history log ≡ more ++ history)
+acts_onto-after history [] = ([], refl)
+acts_onto-after history (oldest ∷ log) =
+    let rest = acts_onto-after (act_of oldest ∷ history) log in
     (rest.0 ++ act_of oldest ∷ [], rest.1 ∙ sym (append_assoc rest.0 (act_of oldest ∷ []) history))
 
 -- the history of all records, around one of them
 acts_of-around : (records : List Logged) (i : ℕ) (logged : Logged) → i < length records → logged ≡ get_or records i logged
     → (more : History) × (acts_of records ≡ more ++ act_of logged ∷ acts_of (take i records))
 acts_of-around records i logged inside is =
-    let front = take i records in
+    let prefix = take i records in
     let back = drop (suc i) records in
-    let split : records ≡ front ++ logged ∷ back = split_at records i logged inside ∙ ap (λ (l : Logged). front ++ l ∷ back) (sym is) in
-    let rest = acts_onto-behind (act_of logged ∷ acts_of front) back in
-    (rest.0, ap acts_of split ∙ acts_onto-append [] front (logged ∷ back) ∙ rest.1)
+    let split : records ≡ prefix ++ logged ∷ back = split_at records i logged inside ∙ ap (λ (l : Logged). prefix ++ l ∷ back) (sym is) in
+    let rest = acts_onto-after (act_of logged ∷ acts_of prefix) back in
+    (rest.0, ap acts_of split ∙ acts_onto-append [] prefix (logged ∷ back) ∙ rest.1)
 
 -- a misfit so far is the first of all records
 pub misfit_of_all : (pages : ℕ) (records : List Logged) (i : ℕ) (logged : Logged) (refused : ReplayRefused) → i < length records → logged ≡ get_or records i logged

@@ -49,12 +49,12 @@ none_pending [] none = refl
 none_pending (newest ∷ before) none = absurd (true≢false none)
 
 -- the log's replay left nothing pending
-pub opens : (told : Type 0) (content : Image) (limit : ℕ) (fields : Fields) (log : LogValue) (records : List Logged) (replay : Replay) (result : Result Opened RestartFault)
-    → IsFields fields → fields.checkpoint ≡ 0 → (told → HasFields (content Master) fields) → Attaches told (content Log) limit log records → Replays fields.pages (acts_of records) replay
+pub opens : (modelled : Type 0) (content : Image) (limit : ℕ) (fields : Fields) (log : LogValue) (records : List Logged) (replay : Replay) (result : Result Opened RestartFault)
+    → IsFields fields → fields.checkpoint ≡ 0 → (modelled → HasFields (content Master) fields) → Attaches modelled (content Log) limit log records → Replays fields.pages (acts_of records) replay
     → OnOk result (IsNone replay.pending) → IfOk result (λ opened. opened.pages.items ≡ replay.pages.items) → IfOk result (λ opened. opened.next ≡ replay.greatest + 1)
     → IfOk result (λ opened. opened.log ≡ log) → IfOk result (λ opened. opened.report ≡ record { redo = 0; records = replay.inserts; applied = replay.inserts; undone = 0 })
-    → IfOk result (λ opened. Opens told content limit (slots_of opened.pages.items) opened.next opened.log opened.report.records)
-opens told content limit fields log records replay (Ok opened) rules no_checkpoint has attached replayed none pages next logged report =
+    → IfOk result (λ opened. Opens modelled content limit (slots_of opened.pages.items) opened.next opened.log opened.report.records)
+opens modelled content limit fields log records replay (Ok opened) rules no_checkpoint has attached replayed none pages next logged report =
     let history : History = acts_of_batches attached.batches in
     let all : Replays fields.pages history replay = subst (λ (h : History). Replays fields.pages h replay) (sym attached.history_is) replayed in
     record {
@@ -70,4 +70,4 @@ opens told content limit fields log records replay (Ok opened) rules no_checkpoi
       log_is = logged ∙ attached.log_is;
       inserted_is = ap (λ (r : Report). r.records) report ∙ all.inserts_are;
     }
-opens told content limit fields log records replay (Err e) rules no_checkpoint has attached replayed none pages next logged report = tt
+opens modelled content limit fields log records replay (Err e) rules no_checkpoint has attached replayed none pages next logged report = tt

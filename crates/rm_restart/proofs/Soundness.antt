@@ -165,27 +165,27 @@ fresh_is_sound pages content fresh =
     (record { image = plain_image pages [] content image (empty_is_sound pages); commits_are = refl; rows_are = refl }, refl)
 
 -- what an opening reads
-pub opened_is_sound : (told : Type 0) (content : Image) (limit : ℕ) (pages : List (List Slot)) (next : ℕ) (log : LogValue) (inserted : ℕ)
-    (opens : Opens told content limit pages next log inserted) → told → (image : IsPlainImage content) → IsReadFrom content image opens
-opened_is_sound told content limit pages next log inserted opens tells image =
-    let fields : image.fields ≡ opens.fields = fields_once (content Master) image.fields opens.fields image.sound.master (opens.read.has_fields tells) in
-    let batches : image.batches ≡ opens.batches = log_once (content Log) image.batches opens.batches image.sound.has_log (opens.read.has_log tells) in
+pub opened_is_sound : (modelled : Type 0) (content : Image) (limit : ℕ) (pages : List (List Slot)) (next : ℕ) (log : LogValue) (inserted : ℕ)
+    (opens : Opens modelled content limit pages next log inserted) → modelled → (image : IsPlainImage content) → IsReadFrom content image opens
+opened_is_sound modelled content limit pages next log inserted opens models image =
+    let fields : image.fields ≡ opens.fields = fields_once (content Master) image.fields opens.fields image.sound.master (opens.read.has_fields models) in
+    let batches : image.batches ≡ opens.batches = log_once (content Log) image.batches opens.batches image.sound.has_log (opens.read.has_log models) in
     record {
       batches_are = batches;
       pages_are = ap (λ (f : Fields). f.pages) fields;
       sound_log = subst (λ (b : List Batch). IsSoundLog opens.fields.pages b) batches (subst (λ (f : Fields). IsSoundLog f.pages image.batches) fields (plain_log content image));
       image_of = record {
         fields = opens.fields;
-        master = opens.read.has_fields tells;
+        master = opens.read.has_fields models;
         size = refl;
         checkpoint = opens.read.checkpoint;
         half = ap (λ (f : Fields). f.half) (sym fields) ∙ image.half;
-        log = opens.read.has_log tells;
+        log = opens.read.has_log models;
       };
     }
 
-pub opened_needs_no_undo : (told : Type 0) (content : Image) (limit : ℕ) (pages : List (List Slot)) (next : ℕ) (log : LogValue) (inserted id : ℕ)
-    → Opens told content limit pages next log inserted → NeedsUndoOf told content id → told → ⊥
-opened_needs_no_undo told content limit pages next log inserted id opens needs tells =
-    let batches : needs.batches ≡ opens.batches = log_once (content Log) needs.batches opens.batches (needs.read.has_log tells) (opens.read.has_log tells) in
+pub opened_needs_no_undo : (modelled : Type 0) (content : Image) (limit : ℕ) (pages : List (List Slot)) (next : ℕ) (log : LogValue) (inserted id : ℕ)
+    → Opens modelled content limit pages next log inserted → NeedsUndoOf modelled content id → modelled → ⊥
+opened_needs_no_undo modelled content limit pages next log inserted id opens needs models =
+    let batches : needs.batches ≡ opens.batches = log_once (content Log) needs.batches opens.batches (needs.read.has_log models) (opens.read.has_log models) in
     needs.pends (ap (λ (b : List Batch). pending_of (acts_of_batches b) id) batches ∙ opens.settled id)

@@ -21,19 +21,19 @@ abbrev pub FreshIsSound : Type 0
 FreshIsSound = (pages : ℕ) (content : Image) → IsFresh pages content → (held : Holds 0 (λ rid. None) content) × (held.image.fields.pages ≡ pages)
 
 -- The pages and the batches that an opening read are those of the sound image.
-pub record IsReadFrom (content : Image) {told : Type 0} {limit next inserted : ℕ} {pages : List (List Slot)} {log : LogValue}
-    (image : IsPlainImage content) (opens : Opens told content limit pages next log inserted) : Type 0 where
+pub record IsReadFrom (content : Image) {modelled : Type 0} {limit next inserted : ℕ} {pages : List (List Slot)} {log : LogValue}
+    (image : IsPlainImage content) (opens : Opens modelled content limit pages next log inserted) : Type 0 where
   pub batches_are : image.batches ≡ opens.batches
   pub pages_are : image.fields.pages ≡ opens.fields.pages
   pub sound_log : IsSoundLog opens.fields.pages opens.batches
   pub image_of : IsImageOf opens.fields.pages opens.batches content
 
--- an opening of a sound image that is told reads what the image is of
+-- an opening of a sound image that is reported reads what the image is of
 abbrev pub OpenedIsSound : Type 0
-OpenedIsSound = (tells : Bool) (content : Image) (limit : ℕ) (pages : List (List Slot)) (next : ℕ) (log : LogValue) (inserted : ℕ)
-    (opens : Opens (IsTrue tells) content limit pages next log inserted) → IsTrue tells → (image : IsPlainImage content) → IsReadFrom content image opens
+OpenedIsSound = (models : Bool) (content : Image) (limit : ℕ) (pages : List (List Slot)) (next : ℕ) (log : LogValue) (inserted : ℕ)
+    (opens : Opens (IsTrue models) content limit pages next log inserted) → IsTrue models → (image : IsPlainImage content) → IsReadFrom content image opens
 
--- what is told opens only if nothing is to be undone
+-- what is reported opens only if nothing is to be undone
 abbrev pub OpenedNeedsNoUndo : Type 0
-OpenedNeedsNoUndo = (tells : Bool) (content : Image) (limit : ℕ) (pages : List (List Slot)) (next : ℕ) (log : LogValue) (inserted id : ℕ)
-    → Opens (IsTrue tells) content limit pages next log inserted → NeedsUndoOf (IsTrue tells) content id → IsTrue tells → ⊥
+OpenedNeedsNoUndo = (models : Bool) (content : Image) (limit : ℕ) (pages : List (List Slot)) (next : ℕ) (log : LogValue) (inserted id : ℕ)
+    → Opens (IsTrue models) content limit pages next log inserted → NeedsUndoOf (IsTrue models) content id → IsTrue models → ⊥

@@ -20,19 +20,19 @@ use Rattle.rm_history.specs.Counts.{repeat_count}
 use Rattle.rm_history.specs.Batched.{acts_of_batches, IsBelow, AreBelow}
 use Rattle.rm_restart.specs.Plain.{IsPlain, ArePlain}
 
--- The fields and the batches that were read: those of the content, where it is told.
-pub record WasRead (told : Type 0) (content : Image) (fields : Fields) (batches : List Batch) : Type 0 where
+-- The fields and the batches that were read: those of the content, where it is reported.
+pub record WasRead (modelled : Type 0) (content : Image) (fields : Fields) (batches : List Batch) : Type 0 where
   pub is_fields : IsFields fields
-  pub has_fields : told → HasFields (content Master) fields
+  pub has_fields : modelled → HasFields (content Master) fields
   pub checkpoint : fields.checkpoint ≡ 0
   pub are_batches : AreBatches batches
-  pub has_log : told → HasLog (content Log) batches
+  pub has_log : modelled → HasLog (content Log) batches
 
 -- The pages are those of the log, which is plain, nothing is pending in it, and the next id is one more than each.
-pub record Opens (told : Type 0) (content : Image) (limit : ℕ) (pages : List (List Slot)) (next : ℕ) (log : LogValue) (inserted : ℕ) : Type 0 where
+pub record Opens (modelled : Type 0) (content : Image) (limit : ℕ) (pages : List (List Slot)) (next : ℕ) (log : LogValue) (inserted : ℕ) : Type 0 where
   pub fields : Fields
   pub batches : List Batch
-  pub read : WasRead told content fields batches
+  pub read : WasRead modelled content fields batches
   pub below : AreBelow fields.pages (acts_of_batches batches)
   pub plain : ArePlain (acts_of_batches batches)
   pub settled : (id : ℕ) → pending_of (acts_of_batches batches) id ≡ []
@@ -43,10 +43,10 @@ pub record Opens (told : Type 0) (content : Image) (limit : ℕ) (pages : List (
   pub inserted_is : inserted ≡ repeat_count (acts_of_batches batches)
 
 -- The transaction is the least that has a pending record.
-pub record NeedsUndoOf (told : Type 0) (content : Image) (id : ℕ) : Type 0 where
+pub record NeedsUndoOf (modelled : Type 0) (content : Image) (id : ℕ) : Type 0 where
   pub fields : Fields
   pub batches : List Batch
-  pub read : WasRead told content fields batches
+  pub read : WasRead modelled content fields batches
   pub pends : pending_of (acts_of_batches batches) id ≡ [] → ⊥
   pub least : (other : ℕ) → other < id → pending_of (acts_of_batches batches) other ≡ []
 

@@ -22,7 +22,7 @@ abbrev pub has_some : List Change → Bool
 has_some [] = false
 has_some (newest ∷ before) = true
 
--- The pages are those of the history, which is plain and has these pending transactions, this greatest id and so many inserts.
+-- The pages are those of the history, which is plain and has these pending transactions, this greatest id and this many inserts.
 pub record Replays (pages : ℕ) (history : History) (replay : Replay) : Type 0 where
   pub count : length (slots_of replay.pages.items) ≡ pages
   pub below : AreBelow pages history

@@ -134,7 +134,7 @@ impl Replay {
     }
 }
 
-// Replays the records, the oldest of which comes first, into so many pages.
+// Replays the records, the oldest of which comes first, into this many pages.
 pub fn replayed(alloc: Global, pages: u32, records: &[Logged]) -> Result<Replay, ReplayRefused>
     ensures ok { IfOk result (Replays pages (acts_of records.now)) }
     ensures misfit { IfErr result (λ refused. IfMisfit refused (λ at. IsMisfitAt pages (acts_of records.now) at.0)) }

@@ -55,7 +55,11 @@ fn the_first_wrong_line_is_named(rt: HostRuntime) -> Result<(), Fail> {
         for row in table.split('\n') {
             let (due, texts) = row.split_once('|').ok_or("no script")?;
             for text in texts.split('|') {
-                assert_eq!(rt; reading(rt.alloc(), is_turns, text)?.as_str(), due, "{text:?}");
+                assert_eq!(rt;
+                    reading(rt.alloc(), is_turns, text)?.as_str(),
+                    due,
+                    "{text:?}"
+                );
             }
         }
     }

@@ -5,7 +5,7 @@
 //! hands it the real words, volume, source and sink.
 #![tactic(auto)]
 
-use rm_command::{Status, run_command, tell};
+use rm_command::{Status, run_command, write_status};
 use rm_files::{FileVolume, Input, Output};
 use std::io::ErrorKind;
 use std::process::ExitCode;
@@ -28,13 +28,13 @@ fn main(rt: HostRuntime) -> ExitCode {
     let words = match words(&rt) {
         Ok(words) => words,
         Err(error) if error.kind() == ErrorKind::OutOfMemory => {
-            return ExitCode::from(tell(Status::NoMemory, &mut out).number());
+            return ExitCode::from(write_status(Status::NoMemory, &mut out).number());
         }
         // A word that is no text is in no command's form, and nor is no word.
         Err(_) => Vec::new(rt.alloc()),
     };
     let Ok(mut volume) = FileVolume::new(rt.alloc(), &rt, FOLDER) else {
-        return ExitCode::from(tell(Status::NoMemory, &mut out).number());
+        return ExitCode::from(write_status(Status::NoMemory, &mut out).number());
     };
     let mut script = Input::new(rt.stdin());
     let status = run_command(

@@ -1,5 +1,5 @@
 use Rattle.std.proofs.Common.{length, arith, ap, Err}
-use Rattle.rm_command.proofs.PlainLemmas.{owes_source, owes_memory, owes_refused, owes_front, owes_broke, few_lines}
+use Rattle.rm_command.proofs.PlainLemmas.{owes_source, owes_memory, owes_refused, owes_prefix, owes_broke, few_lines}
 use Rattle.rm_command.proofs.command.plain.Goals as goal
 
 pub returns-in-Err-Failed-clause-owes : goal.returns-in-Err-Failed-clause-owes
@@ -28,5 +28,5 @@ returns-in-Err-Failed-run_lines-clause-owes g c =
 pub returns-clause-owes : goal.returns-clause-owes
 returns-clause-owes g c =
     let plain = rw c.as_slice.ensures.value at c.in-Ok-read_plain.ensures.plain in
-    let front = rw c.as_slice-2.ensures.value at c.in-Err-NoMemory-run_lines.ensures.no_memory (ap Err c.in-Err-NoMemory-run_lines.field-0-is) in
-    owes_front _ _ _ _ _ _ _ _ c.in-Ok.ensures.bytes plain.0 plain.1 front
+    let prefix = rw c.as_slice-2.ensures.value at c.in-Err-NoMemory-run_lines.ensures.no_memory (ap Err c.in-Err-NoMemory-run_lines.field-0-is) in
+    owes_prefix _ _ _ _ _ _ _ _ c.in-Ok.ensures.bytes plain.0 plain.1 prefix

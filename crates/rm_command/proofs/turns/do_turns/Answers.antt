@@ -52,35 +52,35 @@ returns-in_err-reply-clause-err g c =
     (λ last same. c.turn.ensures.spent last (c.in_err-reply.was ∙ ap Err same))
     (λ f same. let why = fault_is _ _ _ _ (c.turn.ensures.cause f (c.in_err-reply.was ∙ ap Err same)) in (why.0, Rises-before _ _ _ (c.loop-line.invariant.writes.0.counts.faults Log) why.1)))
 
-pub returns-in_err-tell_reply-clause-err : goal.returns-in_err-tell_reply-clause-err
-returns-in_err-tell_reply-clause-err g c =
+pub returns-in_err-write_reply-clause-err : goal.returns-in_err-write_reply-clause-err
+returns-in_err-write_reply-clause-err g c =
     let V = g.V.Volume in
     let first = c.args.engine.now in
     let here = c.loop-line.engine in
     let next = c.turn.new.self in
     let done = take c.loop-line.line-index c.args.lines.now in
     let asked = c.line-item.result in
-    let told = c.in_ok-reply.reply in
+    let answer = c.in_ok-reply.reply in
     let old = facts_of V c.args.volume.now in
     let mid = facts_of V c.loop-line.volume in
     let new = facts_of V c.turn.new.volume in
     let turned = c.loop-line.invariant.turned in
-    let does : Does here asked told next = record {
+    let does : Does here asked answer next = record {
       step = c.in_ok-reply.ensures.step;
       room = subst (λ (limit : ℕ). HasLogRoom limit here.session.core (used_by here) asked) c.loop-line.invariant.limit c.in_ok-reply.ensures.room;
       uses = c.in_ok-reply.ensures.used;
     } in
-    let stands = stands_more first here old mid done turned.replies turned.leaves next new asked told c.in_ok-reply.ensures.step c.in_ok-reply.ensures.at c.turn.ensures.any_moment in
+    let stands = stands_more first here old mid done turned.replies turned.leaves next new asked answer c.in_ok-reply.ensures.step c.in_ok-reply.ensures.at c.turn.ensures.any_moment in
     let at = ap (λ (line : Line). done ++ line ∷ []) c.line-item.is ∙ sym (take_more c.args.lines.now c.loop-line.line-index asked (omega arith)) in
-    let p = err_from_is_err_and c.from_residual-in_err-tell_reply.result c.from_residual-in_err-tell_reply.ensures.1 in
+    let p = err_from_is_err_and c.from_residual-in_err-write_reply.result c.from_residual-in_err-write_reply.ensures.1 in
     rw (p.1, p.2) (gathers_of_reply first c.args.lines.now (LeavesRun first old new) _ _
-    (g.K.Sink.taken c.args.out.now) (g.K.Sink.taken c.loop-line.out) (g.K.Sink.taken c.tell_reply.new.out)
-    (StandsAfter first here old mid) here next c.loop-line.line-index asked told c.loop-line.text.items c.tell_reply.new.text.items turned does
+    (g.K.Sink.taken c.args.out.now) (g.K.Sink.taken c.loop-line.out) (g.K.Sink.taken c.write_reply.new.out)
+    (StandsAfter first here old mid) here next c.loop-line.line-index asked answer c.loop-line.text.items c.write_reply.new.text.items turned does
     at
-    (leaves_now first next old new (done ++ asked ∷ []) (turned.replies ++ told ∷ []) stands (slice_get c.args.lines.now (c.loop-line.line-index + 1)))
-    c.in_err-tell_reply.field-0.0 c.in_err-tell_reply.ensures.errors
-    (λ same. let kept = c.tell_reply.ensures.no_memory (c.in_err-tell_reply.was ∙ ap Err same) in (ap g.K.Sink.taken kept.0, kept.1))
-    (λ same. (Rises-before _ _ _ c.loop-line.invariant.kept (c.tell_reply.ensures.failed (c.in_err-tell_reply.was ∙ ap Err same)), c.tell_reply.ensures.broke (c.in_err-tell_reply.was ∙ ap Err same))))
+    (leaves_now first next old new (done ++ asked ∷ []) (turned.replies ++ answer ∷ []) stands (slice_get c.args.lines.now (c.loop-line.line-index + 1)))
+    c.in_err-write_reply.field-0.0 c.in_err-write_reply.ensures.errors
+    (λ same. let kept = c.write_reply.ensures.no_memory (c.in_err-write_reply.was ∙ ap Err same) in (ap g.K.Sink.taken kept.0, kept.1))
+    (λ same. (Rises-before _ _ _ c.loop-line.invariant.kept (c.write_reply.ensures.failed (c.in_err-write_reply.was ∙ ap Err same)), c.write_reply.ensures.broke (c.in_err-write_reply.was ∙ ap Err same))))
 
 pub loop-line-preserved : goal.loop-line-preserved
 loop-line-preserved g c =
@@ -90,27 +90,27 @@ loop-line-preserved g c =
     let next = c.turn.new.self in
     let done = take c.loop-line.line-index c.args.lines.now in
     let asked = c.line-item.result in
-    let told = c.in_ok-reply.reply in
+    let answer = c.in_ok-reply.reply in
     let old = facts_of V c.args.volume.now in
     let mid = facts_of V c.loop-line.volume in
     let new = facts_of V c.turn.new.volume in
     let turned = c.loop-line.invariant.turned in
-    let does : Does here asked told next = record {
+    let does : Does here asked answer next = record {
       step = c.in_ok-reply.ensures.step;
       room = subst (λ (limit : ℕ). HasLogRoom limit here.session.core (used_by here) asked) c.loop-line.invariant.limit c.in_ok-reply.ensures.room;
       uses = c.in_ok-reply.ensures.used;
     } in
-    let stands = stands_more first here old mid done turned.replies turned.leaves next new asked told c.in_ok-reply.ensures.step c.in_ok-reply.ensures.at c.turn.ensures.any_moment in
+    let stands = stands_more first here old mid done turned.replies turned.leaves next new asked answer c.in_ok-reply.ensures.step c.in_ok-reply.ensures.at c.turn.ensures.any_moment in
     let at = ap (λ (line : Line). done ++ line ∷ []) c.line-item.is ∙ sym (take_more c.args.lines.now c.loop-line.line-index asked (omega arith)) in
-    let longer = turned_line first here next done asked told (StandsAfter first here old mid) (StandsAfter first next old new)
-    (g.K.Sink.taken c.args.out.now) (g.K.Sink.taken c.loop-line.out) c.loop-line.text.items turned does stands (g.K.Sink.taken c.tell_reply.new.out) c.tell_reply.new.text.items c.in_ok-tell_reply.ensures.ok in
+    let longer = turned_line first here next done asked answer (StandsAfter first here old mid) (StandsAfter first next old new)
+    (g.K.Sink.taken c.args.out.now) (g.K.Sink.taken c.loop-line.out) c.loop-line.text.items turned does stands (g.K.Sink.taken c.write_reply.new.out) c.write_reply.new.text.items c.in_ok-write_reply.ensures.ok in
     record {
-      turned = subst (λ (lines : List Line). Turned first next lines (StandsAfter first next old new) (g.K.Sink.taken c.args.out.now) (g.K.Sink.taken c.tell_reply.new.out) c.tell_reply.new.text.items) at longer;
+      turned = subst (λ (lines : List Line). Turned first next lines (StandsAfter first next old new) (g.K.Sink.taken c.args.out.now) (g.K.Sink.taken c.write_reply.new.out) c.write_reply.new.text.items) at longer;
       ready = c.in_ok-reply.ensures.ready;
       synced = c.in_ok-reply.ensures.durable;
       limit = c.in_ok-reply.ensures.limit ∙ c.loop-line.invariant.limit;
       writes = (keeps_then c.loop-line.invariant.writes.0 c.in_ok-reply.ensures.writes.0, c.in_ok-reply.ensures.writes.1 ∙ c.loop-line.invariant.writes.1);
-      kept = omega (arith, c.in_ok-tell_reply.ensures.kept);
+      kept = omega (arith, c.in_ok-write_reply.ensures.kept);
     }
 
 pub returns-clause-ok : goal.returns-clause-ok
@@ -130,6 +130,6 @@ pub returns-in_err-reply-clause-writes : goal.returns-in_err-reply-clause-writes
 returns-in_err-reply-clause-writes g c =
     let so_far = c.loop-line.invariant.writes in let turn = c.turn.ensures.writes in (keeps_then so_far.0 turn.0, turn.1 ∙ so_far.1)
 
-pub returns-in_err-tell_reply-clause-writes : goal.returns-in_err-tell_reply-clause-writes
-returns-in_err-tell_reply-clause-writes g c =
+pub returns-in_err-write_reply-clause-writes : goal.returns-in_err-write_reply-clause-writes
+returns-in_err-write_reply-clause-writes g c =
     let so_far = c.loop-line.invariant.writes in let turn = c.turn.ensures.writes in (keeps_then so_far.0 turn.0, turn.1 ∙ so_far.1)

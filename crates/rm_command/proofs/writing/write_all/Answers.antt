@@ -5,7 +5,7 @@ use Rattle.rm_outside.specs.Streams.{Takes}
 use Rattle.rm_outside.proofs.StreamLemmas.{Takes-prefix}
 use Rattle.rm_command.proofs.writing.write_all.Goals as goal
 
--- a front of the text, and then a front of the rest of it
+-- a prefix of the text, and then a prefix of the rest of it
 sent_more : (a b c : Option (List ℕ)) (text rest : List ℕ) (m n : ℕ) → rest ≡ drop m text → Takes a b (take m text) → Takes b c (take n rest) → Takes a c (take (m + n) text)
 sent_more a b c text rest m n is_rest first second = Takes-prefix a b c text m n first (subst (λ (r : List ℕ). Takes b c (take n r)) is_rest second)
 

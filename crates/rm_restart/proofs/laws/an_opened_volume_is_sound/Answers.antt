@@ -3,4 +3,4 @@ use Rattle.rm_restart.proofs.Soundness.{opened_is_sound}
 use Rattle.rm_restart.proofs.laws.an_opened_volume_is_sound.Goals as goal
 
 pub returns : goal.returns
-returns c = λ tells. opened_is_sound (IsTrue tells)
+returns c = λ models. opened_is_sound (IsTrue models)

@@ -28,7 +28,7 @@ returns-in-Begin-Began-clause-ready g c =
       limit = c.requires.ready.limit;
       began = λ active. omega (arith, c.requires.ready.first);
       room = λ active. omega (arith, room.1);
-      room_behind = λ active some. omega (arith, room.1);
+      room_after = λ active some. omega (arith, room.1);
     })
 
 pub returns-in-Begin-Began-clause-at : goal.returns-in-Begin-Began-clause-at
