@@ -72,10 +72,10 @@ acts_of-around records i logged inside is =
 
 -- a misfit so far is the first of all records
 pub misfit_of_all : (pages : ℕ) (records : List Logged) (i : ℕ) (logged : Logged) (refused : ReplayRefused) → i < length records → logged ≡ get_or records i logged
-    → AreBelow pages (acts_of (take i records)) → ArePlain (acts_of (take i records))
+    → AreBelow pages (acts_of (take i records)) → ArePlain (acts_of (take i records)) → ((page : ℕ) → used (page_of (acts_of (take i records)) page) ≤ CAPACITY)
     → IfMisfit refused (λ at. (at ≡ logged.lsn) × IsMisfit pages (acts_of (take i records)) (act_of logged))
     → IfMisfit refused (λ at. IsMisfitAt pages (acts_of records) at.0)
-misfit_of_all pages records i logged (Misfit at) inside is below plain misfit =
+misfit_of_all pages records i logged (Misfit at) inside is below plain fits misfit =
     let around = acts_of-around records i logged inside is in
     record {
       more = around.0;
@@ -85,9 +85,10 @@ misfit_of_all pages records i logged (Misfit at) inside is below plain misfit =
       place = (λ j. (misfit.0 j).0) ∙ sym (lsn_of-act_at logged.lsn.0 logged.what);
       below = below;
       plain = plain;
+      fits = fits;
       misfit = misfit.1;
     }
-misfit_of_all pages records i logged NoMemory inside is below plain misfit = tt
+misfit_of_all pages records i logged NoMemory inside is below plain fits misfit = tt
 
 -- a row that has no place there makes its insert a misfit
 lacks_place : (pages : ℕ) (history : History) (replay : Replay) (lsn : ℕ) (txn : TxnId) (under : Lsn) (rid : Rid) (need : ℕ) (row : List ℕ) → Replays pages history replay

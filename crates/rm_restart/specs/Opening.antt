@@ -1,5 +1,5 @@
 -- What an opening finds in a volume.
-use Rattle.std.specs.Prelude.{◌≡◌, ℕ, ◌+◌, ◌<◌, ◌⊎◌, List, [], ◌∷◌, ◌++◌, length}
+use Rattle.std.specs.Prelude.{◌≡◌, ℕ, ◌+◌, ◌<◌, ◌≤◌, ◌⊎◌, List, [], ◌∷◌, ◌++◌, length}
 use Rattle.rm_types.specs.declared.areas.Area.{Area}
 use Rattle.rm_types.specs.declared.areas.Area.TheVariants.{Master, Log, Data, Space, Copy}
 use Rattle.rm_types.specs.declared.slots.Slot.{Slot}
@@ -64,6 +64,7 @@ pub record IsMisfitAt (pages : ℕ) (history : History) (at : ℕ) : Type 0 wher
   pub place : at ≡ lsn_of act
   pub below : AreBelow pages before
   pub plain : ArePlain before
+  pub fits : (page : ℕ) → used (page_of before page) ≤ CAPACITY
   pub misfit : IsMisfit pages before act
 
 -- The master names a checkpoint, which no log has yet.

@@ -28,6 +28,7 @@ pub record Replays (pages : ℕ) (history : History) (replay : Replay) : Type 0 
   pub below : AreBelow pages history
   pub plain : ArePlain history
   pub pages_are : (page : ℕ) → page < pages → page_at (slots_of replay.pages.items) page ≡ page_of history page
+  pub fits : (page : ℕ) → used (page_of history page) ≤ CAPACITY
   pub pending_are : (id : ℕ) → contains nat_cmp replay.pending id ≡ has_some (pending_of history id)
   pub greatest_is : replay.greatest ≡ greatest_txn history
   pub inserts_are : replay.inserts ≡ repeat_count history

@@ -1,8 +1,11 @@
 //! Replaying the records of a log into the pages of a file.
 
-ghost use Rattle.std.specs.Prelude.{◌≡◌, ℕ, ◌^◌, ◌<◌, [], ◌∷◌, length, replicate, IfOk, OnOk, IfErr, IfSome, IfNone};
+ghost use Rattle.std.specs.Prelude.{◌≡◌, ℕ, ◌^◌, ◌<◌, ◌≤◌, [], ◌∷◌, length, replicate, IfOk, OnOk, IfErr, IfSome, IfNone};
 ghost use Rattle.rm_types.specs.declared.numbers.Lsn.{Lsn as Lsns};
-ghost use Rattle.rm_model.specs.Files.{set_row as with_row_set, slots_of};
+ghost use Rattle.rm_types.specs.declared.slots.Slot.TheVariants as Slots;
+ghost use Rattle.rm_types.specs.declared.slots.TheConstants.{CAPACITY};
+ghost use Rattle.rm_model.specs.Pages.{used, set_slot};
+ghost use Rattle.rm_model.specs.Files.{page_at, set_row as with_row_set, slots_of};
 ghost use Rattle.rm_record.specs.declared.records.LogRecord.TheVariants as log;
 ghost use Rattle.rm_history.specs.Acts.{History, act_at, act_of, acts_of};
 ghost use Rattle.rm_restart.specs.Opening.{IsMisfit, IsMisfitAt};
@@ -38,6 +41,7 @@ impl From<NoMemory> for ReplayRefused {
 // Sets the row at a row id.
 fn set_row(pages: &mut [Page], rid: Rid, row: &[u8], lsn: Lsn) -> Result<(), ReplayRefused>
     ensures inside { OnOk result (rid.page < length (slots_of pages.old)) }
+    ensures fits { OnOk result (used (set_slot (page_at (slots_of pages.old) rid.page) rid.slot (Slots.Row row.now)) ≤ CAPACITY) }
     ensures ok { OnOk result (slots_of pages.new ≡ with_row_set (slots_of pages.old) rid row.now) }
     ensures misfit { IfErr result (λ refused. IfMisfit refused (λ at. (at ≡ lsn) × LacksPlace (slots_of pages.old) rid row.now)) }
 {
