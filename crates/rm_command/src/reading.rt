@@ -9,10 +9,10 @@ use rm_outside::Source;
 use rm_script::MAX_BYTES;
 use std::alloc::{AllocError, Global};
 
-/// How many bytes are asked for at a time.
+/// The most bytes of one read.
 const CHUNK: usize = 65_536;
 
-/// So many zeros, to read into.
+/// The buffer of a read: `count` zeros.
 fn zeros(alloc: Global, count: usize) -> Result<Vec<u8>, AllocError>
     ensures { IfOk result (λ zeros. vec_len zeros ≡ count) }
 {

@@ -1,8 +1,9 @@
--- An area whose first wrong place is somewhere has no log.
+-- An area that is damaged has no log, and is damaged at one place alone.
 use Rattle.std.proofs.Common.{◌≡◌, ◌⊎◌, inl, inr, ℕ, ◌+◌, ◌<◌, ◌≤◌, List, [], ◌∷◌, ◌++◌, length, take, drop, ◌^◌, refl, sym, ap}
 use Rattle.std.proofs.Common.{subst, ◌∙◌, arith, length-append, append_assoc}
 use Rattle.std.specs.Int.{to_be_bytes, from_be_bytes, w32}
 use Rattle.std.specs.List.{AllByRecursion}
+use Rattle.std.proofs.lemmas.Bool.{cases_lt}
 use Rattle.std.proofs.lemmas.Grind.{flat_map-append}
 use Rattle.std.proofs.lemmas.List.{take-append-drop, length-take}
 use Rattle.std.proofs.lemmas.Nat.{from_be_bytes-to_be_bytes_4}
@@ -11,7 +12,7 @@ use Rattle.rm_outside.proofs.ShowsLemmas.{shows_front, shows_back, shows_once}
 use Rattle.rm_record.specs.declared.records.LogRecord.{LogRecord}
 use Rattle.rm_record.specs.Records.{spelling, spelling_all, IsRecord}
 use Rattle.rm_record.proofs.Decoding.{spellings_are_apart}
-use Rattle.rm_history.specs.Logs.{Batch, gate_of, body_of, IsInRange, IsBatch, Stands, HasLog, HasWrongLength, HasWrongRecord, IsDamagedAt}
+use Rattle.rm_history.specs.Logs.{Batch, gate_of, body_of, IsInRange, IsBatch, Stands, HasLog, HasWrongLength, HasWrongRecord, IsWrongAfter, IsDamagedAt}
 use Rattle.rm_history.proofs.Readings.{last_of, stands_prefix, overlap, none_after}
 
 -- the record after some records of a batch
@@ -71,58 +72,108 @@ module _ (area : Bytes) where
       ap (λ (l : List ℕ). l ++ drop n whole) same ∙ split
 
   -- one length stands there
-  length_once : (gate len : ℕ) (batch : Batch) → len < 2 ^ 32 → IsBatch gate batch → Shows area (gate + 1) (to_be_bytes w32 len)
+  length_once : (at len other : ℕ) → len < 2 ^ 32 → other < 2 ^ 32 → Shows area at (to_be_bytes w32 len) → Shows area at (to_be_bytes w32 other) → len ≡ other
+  length_once at len other fits other_fits shown other_shown =
+      let heads : to_be_bytes w32 len ≡ to_be_bytes w32 other = shows_once (to_be_bytes w32 len) (to_be_bytes w32 other) shown other_shown refl in
+      sym (from_be_bytes-to_be_bytes_4 len fits) ∙ ap (from_be_bytes w32) heads ∙ from_be_bytes-to_be_bytes_4 other other_fits
+
+  -- the length of a batch
+  batch_length : (gate len : ℕ) (batch : Batch) → len < 2 ^ 32 → IsBatch gate batch → Shows area (gate + 1) (to_be_bytes w32 len)
       → Shows area (gate + 1) (body_of batch) → len ≡ length (spelling_all batch)
-  length_once gate len batch fits is shown body =
+  batch_length gate len batch fits is shown body =
       let n = length (spelling_all batch) in
-      let heads : to_be_bytes w32 len ≡ to_be_bytes w32 n =
-      shows_once (to_be_bytes w32 len) (to_be_bytes w32 n) shown (shows_front (to_be_bytes w32 n) (spelling_all batch) body) refl in
-      sym (from_be_bytes-to_be_bytes_4 len fits) ∙ ap (from_be_bytes w32) heads ∙ from_be_bytes-to_be_bytes_4 n (omega (arith, is.range.short))
+      length_once (gate + 1) len n fits (omega (arith, is.range.short)) shown (shows_front (to_be_bytes w32 n) (spelling_all batch) body)
 
-  no_wrong_length : (gate at : ℕ) (batch : Batch) → IsBatch gate batch → Shows area (gate + 1) (body_of batch) → HasWrongLength area gate at → ⊥
-  no_wrong_length gate at batch is body wrong =
-      wrong.wrong (subst (λ (n : ℕ). IsInRange gate n) (sym (length_once gate wrong.len batch wrong.fits is wrong.shown body)) is.range)
+  -- the records before a wrong one, and the length before them
+  abbrev wrong_shown : {gate at : ℕ} → (wrong : HasWrongRecord area gate at) → Shows area (gate + 1) (to_be_bytes w32 wrong.len)
+  wrong_shown wrong = shows_front (to_be_bytes w32 wrong.len) (spelling_all wrong.prefix) wrong.shown
 
-  no_wrong_record : (gate at : ℕ) (batch : Batch) → IsBatch gate batch → Shows area (gate + 1) (body_of batch) → HasWrongRecord area gate at → ⊥
-  no_wrong_record gate at batch is body wrong =
+  abbrev wrong_fits : {gate at : ℕ} → (wrong : HasWrongRecord area gate at) → wrong.len < 2 ^ 32
+  wrong_fits wrong = omega (arith, wrong.range.short)
+
+  -- within that length no more records stand
+  none_more : (gate at : ℕ) (wrong : HasWrongRecord area gate at) (records : Batch) → AllByRecursion IsRecord records
+      → Shows area (gate + 1 + 4) (spelling_all records) → length (spelling_all records) ≤ wrong.len
+      → length (spelling_all wrong.prefix) < length (spelling_all records) → ⊥
+  none_more gate at wrong records are whole within shorter =
       let prefix = wrong.prefix in
-      let n = length (spelling_all batch) in
-      let head = to_be_bytes w32 wrong.len in
-      let same : wrong.len ≡ n =
-      length_once gate wrong.len batch (omega (arith, wrong.range.short)) is (shows_front head (spelling_all prefix) wrong.shown) body in
-      let begins : Shows area (gate + 1 + 4) (spelling_all prefix) = shows_back head (spelling_all prefix) wrong.shown in
-      let whole : Shows area (gate + 1 + 4) (spelling_all batch) = shows_back (to_be_bytes w32 n) (spelling_all batch) body in
-      let shorter : length (spelling_all prefix) < n = omega (arith, wrong.within, same) in
-      let found = next_of prefix batch (drop (length (spelling_all prefix)) (spelling_all batch)) wrong.records is.records
-      (shows_take (gate + 1 + 4) (spelling_all prefix) (spelling_all batch) begins whole (omega arith)) shorter in
+      let begins : Shows area (gate + 1 + 4) (spelling_all prefix) = shows_back (to_be_bytes w32 wrong.len) (spelling_all prefix) wrong.shown in
+      let found = next_of prefix records (drop (length (spelling_all prefix)) (spelling_all records)) wrong.records are
+      (shows_take (gate + 1 + 4) (spelling_all prefix) (spelling_all records) begins whole (omega arith)) shorter in
       let there : Shows area (gate + 1 + 4 + length (spelling_all prefix)) (spelling found.next) =
       shows_front (spelling found.next) (spelling_all found.rest)
       (shows_back (spelling_all prefix) (spelling found.next ++ spelling_all found.rest)
-      (subst (λ (l : List ℕ). Shows area (gate + 1 + 4) l) (spelled_around prefix batch found) whole)) in
+      (subst (λ (l : List ℕ). Shows area (gate + 1 + 4) l) (spelled_around prefix records found) whole)) in
       let place : gate + 1 + 4 + length (spelling_all prefix) ≡ at = omega (arith, wrong.place) in
-      let fits : length (spelling_all prefix) + length (spelling found.next) ≤ wrong.len =
-      omega (arith, same, found_within prefix batch found) in
+      let fits : length (spelling_all prefix) + length (spelling found.next) ≤ wrong.len = omega (arith, within, found_within prefix records found) in
       wrong.none found.next found.is fits (subst (λ (m : ℕ). Shows area m (spelling found.next)) place there)
 
-  -- a wrong place after some batches, of which the log has more or fewer
-  not_after : (batches others : List Batch) (at : ℕ) → area (gate_of batches) ≡ 1
-      → HasWrongLength area (gate_of batches) at ⊎ HasWrongRecord area (gate_of batches) at → HasLog area others
-      → (more : List Batch) → others ≡ more ++ batches → ⊥
-  not_after batches others at begun wrong has [] is = has.closed (ap (λ (b : List Batch). area (gate_of b)) is ∙ begun)
-  not_after batches others at begun wrong has (next ∷ more) is =
+  no_wrong_length : (gate at : ℕ) (batch : Batch) → IsBatch gate batch → Shows area (gate + 1) (body_of batch) → HasWrongLength area gate at → ⊥
+  no_wrong_length gate at batch is body wrong =
+      wrong.wrong (subst (λ (n : ℕ). IsInRange gate n) (sym (batch_length gate wrong.len batch wrong.fits is wrong.shown body)) is.range)
+
+  no_wrong_record : (gate at : ℕ) (batch : Batch) → IsBatch gate batch → Shows area (gate + 1) (body_of batch) → HasWrongRecord area gate at → ⊥
+  no_wrong_record gate at batch is body wrong =
+      let n = length (spelling_all batch) in
+      let same : wrong.len ≡ n = batch_length gate wrong.len batch (wrong_fits wrong) is (wrong_shown wrong) body in
+      none_more gate at wrong batch is.records (shows_back (to_be_bytes w32 n) (spelling_all batch) body) (omega (arith, same)) (omega (arith, wrong.within, same))
+
+  -- where no batch stands after those of a damaged log
+  not_after : (batches others : List Batch) (at : ℕ) → IsWrongAfter area (gate_of batches) at → Stands area others
+      → (next : Batch) (more : List Batch) → others ≡ (next ∷ more) ++ batches → ⊥
+  not_after batches others at wrong stands next more is =
       let parts = last_of area next more in
       let split : others ≡ parts.0 ++ (parts.1 ∷ batches) = is ∙ ap (λ (l : List Batch). l ++ batches) parts.2 ∙ append_assoc parts.0 (parts.1 ∷ []) batches in
-      let there : Stands area (parts.1 ∷ batches) = stands_prefix area parts.0 (parts.1 ∷ batches) (subst (Stands area) split has.stands) in
-      elim wrong [
+      let there : Stands area (parts.1 ∷ batches) = stands_prefix area parts.0 (parts.1 ∷ batches) (subst (Stands area) split stands) in
+      elim wrong.wrong [
         | inl wrong_length ↦ no_wrong_length (gate_of batches) at parts.1 there.1 there.3 wrong_length
         | inr wrong_record ↦ no_wrong_record (gate_of batches) at parts.1 there.1 there.3 wrong_record
       ]
 
+  all_before : (batches others : List Batch) (at : ℕ) → IsWrongAfter area (gate_of batches) at → Stands area others
+      → (more : List Batch) → others ≡ more ++ batches → others ≡ batches
+  all_before batches others at wrong stands [] is = is
+  all_before batches others at wrong stands (next ∷ more) is = absurd (not_after batches others at wrong stands next more is)
+
   pub damaged_has_no_log : (at : ℕ) (batches : List Batch) → IsDamagedAt area at → HasLog area batches → ⊥
   damaged_has_no_log at others damaged has =
-      elim (overlap area damaged.batches others damaged.stands has.stands) [
-        | inl found ↦
-            let same : damaged.batches ≡ others = none_after area damaged.batches others found.0 has.closed damaged.stands found.1 in
-            has.closed (ap (λ (b : List Batch). area (gate_of b)) (sym same) ∙ damaged.begun)
-        | inr found ↦ not_after damaged.batches others at damaged.begun damaged.wrong has found.0 found.1
+      let same : others ≡ damaged.batches = elim (overlap area damaged.batches others damaged.stands has.stands) [
+        | inl found ↦ sym (none_after area damaged.batches others found.0 has.closed damaged.stands found.1)
+        | inr found ↦ all_before damaged.batches others at damaged.wrong has.stands found.0 found.1
+      ] in
+      has.closed (ap (λ (b : List Batch). area (gate_of b)) same ∙ damaged.wrong.begun)
+
+  -- of two wrong records after a gate, neither stands before the other
+  not_before : (gate at other : ℕ) → HasWrongRecord area gate at → HasWrongRecord area gate other → at ≤ other
+  not_before gate at other wrong later =
+      let same : wrong.len ≡ later.len = length_once (gate + 1) wrong.len later.len (wrong_fits wrong) (wrong_fits later) (wrong_shown wrong) (wrong_shown later) in
+      let n = length (spelling_all wrong.prefix) in
+      let m = length (spelling_all later.prefix) in
+      elim (cases_lt m n) [
+        | inl shorter ↦ absurd (none_more gate other later wrong.prefix wrong.records
+            (shows_back (to_be_bytes w32 wrong.len) (spelling_all wrong.prefix) wrong.shown) (omega (arith, wrong.within, same)) shorter)
+        | inr not ↦ omega (arith, wrong.place, later.place, not)
       ]
+
+  -- a length that is out of range is no length of records
+  not_both : (gate at other : ℕ) → HasWrongLength area gate at → HasWrongRecord area gate other → ⊥
+  not_both gate at other wrong record_wrong =
+      let same : record_wrong.len ≡ wrong.len =
+      length_once (gate + 1) record_wrong.len wrong.len (wrong_fits record_wrong) wrong.fits (wrong_shown record_wrong) wrong.shown in
+      wrong.wrong (subst (λ (n : ℕ). IsInRange gate n) same record_wrong.range)
+
+  one_after : (gate at other : ℕ) → HasWrongLength area gate at ⊎ HasWrongRecord area gate at
+      → HasWrongLength area gate other ⊎ HasWrongRecord area gate other → at ≡ other
+  one_after gate at other (inl one) (inl two) = one.place ∙ sym two.place
+  one_after gate at other (inl one) (inr two) = absurd (not_both gate at other one two)
+  one_after gate at other (inr one) (inl two) = absurd (not_both gate other at two one)
+  one_after gate at other (inr one) (inr two) = omega (arith, not_before gate at other one two, not_before gate other at two one)
+
+  pub damage_once : (at other : ℕ) → IsDamagedAt area at → IsDamagedAt area other → at ≡ other
+  damage_once at other damaged again =
+      let same : damaged.batches ≡ again.batches = elim (overlap area damaged.batches again.batches damaged.stands again.stands) [
+        | inl found ↦ all_before again.batches damaged.batches other again.wrong damaged.stands found.0 found.1
+        | inr found ↦ sym (all_before damaged.batches again.batches at damaged.wrong again.stands found.0 found.1)
+      ] in
+      let there : IsWrongAfter area (gate_of again.batches) at = subst (λ (b : List Batch). IsWrongAfter area (gate_of b) at) same damaged.wrong in
+      one_after (gate_of again.batches) at other there.wrong again.wrong.wrong

@@ -4,7 +4,7 @@ use Rattle.rm_types.specs.declared.formats.Format.{Format}
 use Rattle.rm_types.specs.declared.numbers.Rid.{Rid}
 use Rattle.rm_outside.specs.Images.{Bytes}
 use Rattle.rm_record.specs.declared.records.Logged.{Logged}
-use Rattle.rm_history.specs.Logs.{Batch, HasLog}
+use Rattle.rm_history.specs.Logs.{Batch, HasLog, IsDamagedAt}
 use Rattle.rm_model.specs.Pages.{row_at, slot_at}
 use Rattle.rm_history.specs.Acts.{Change, History, act_of}
 use Rattle.rm_history.specs.Contents.{slot_of, page_of}
@@ -18,6 +18,11 @@ use Rattle.rm_history.specs.Legal.{IsLegal}
 -- an area has one log
 abbrev pub LogsAreOne : Type 0
 LogsAreOne = (area : Bytes) (batches others : List Batch) → HasLog area batches → HasLog area others → batches ≡ others
+
+-- a damaged area has no log, and is damaged at one place alone
+pub record DamageIsOne : Type 0 where
+  pub no_log : (area : Bytes) (at : ℕ) (batches : List Batch) → IsDamagedAt area at → HasLog area batches → ⊥
+  pub one_place : (area : Bytes) (at other : ℕ) → IsDamagedAt area at → IsDamagedAt area other → at ≡ other
 
 -- no two records do the same with the same LSN
 abbrev pub ActsDetermineRecords : Type 0

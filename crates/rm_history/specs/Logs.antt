@@ -67,9 +67,13 @@ pub record HasWrongRecord (area : Bytes) (gate at : ℕ) : Type 0 where
   pub place : at ≡ gate + (BATCH_HEADER + length (spelling_all prefix))
   pub none : (next : LogRecord) → IsRecord next → length (spelling_all prefix) + length (spelling next) ≤ len → Shows area at (spelling next) → ⊥
 
+-- the gate is open, and no batch stands after it
+pub record IsWrongAfter (area : Bytes) (gate at : ℕ) : Type 0 where
+  pub begun : area gate ≡ 1
+  pub wrong : HasWrongLength area gate at ⊎ HasWrongRecord area gate at
+
 -- the area is damaged there first
 pub record IsDamagedAt (area : Bytes) (at : ℕ) : Type 0 where
   pub batches : List Batch
   pub stands : Stands area batches
-  pub begun : area (gate_of batches) ≡ 1
-  pub wrong : HasWrongLength area (gate_of batches) at ⊎ HasWrongRecord area (gate_of batches) at
+  pub wrong : IsWrongAfter area (gate_of batches) at

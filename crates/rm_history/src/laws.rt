@@ -1,6 +1,6 @@
 //! What holds of all histories: functions without code, whose contracts are laws.
 
-ghost use Rattle.rm_history.specs.Laws.{LogsAreOne, ActsDetermineRecords, SettledWhenNothingIsPending, EmptyIsLegal, PrefixesAreInOrder, LegalPrefixes, LegalIsInOrder, PendingIsChained, PendingIsOfOne, PagesHoldWhatIsPending, PagesHoldWhatIsCommitted, AllPendingIsOfEach, NoneOfFinished, LosersAreUnfinished};
+ghost use Rattle.rm_history.specs.Laws.{LogsAreOne, DamageIsOne, ActsDetermineRecords, SettledWhenNothingIsPending, EmptyIsLegal, PrefixesAreInOrder, LegalPrefixes, LegalIsInOrder, PendingIsChained, PendingIsOfOne, PagesHoldWhatIsPending, PagesHoldWhatIsCommitted, AllPendingIsOfEach, NoneOfFinished, LosersAreUnfinished};
 ghost use Rattle.rm_history.specs.RoomLaws.{NeedsGoOn, FittingIsRoom};
 ghost use Rattle.rm_history.specs.UndoLaws.{UndoesAreInOrder, NoUndoLacksRoom, RollbacksAreLegal, RestartsAreLegal, RestartsExist, PartialRollbacksAreLegal, RestartsCompensateAll, UndoBytesGoDown};
 ghost use Rattle.rm_history.specs.LiteralLaws.{NetIsPending, RowsAreOfWinners, NeedIsTheMost};
@@ -8,6 +8,11 @@ ghost use Rattle.rm_history.specs.LiteralLaws.{NetIsPending, RowsAreOfWinners, N
 /// An area has one log.
 pub fn an_area_has_one_log()
     ensures { LogsAreOne }
+{}
+
+/// A damaged area has no log, and is damaged at one place alone.
+pub fn a_damaged_area_has_no_log()
+    ensures { DamageIsOne }
 {}
 
 /// No two records do the same with the same LSN: a history of acts has all that its records have.

@@ -9,9 +9,10 @@
 mod laws;
 
 pub use laws::{
-    a_finished_transaction_has_nothing_pending, a_legal_history_is_in_order,
-    a_log_without_records_is_legal, a_need_is_the_most_of_all_suffixes,
-    a_page_holds_what_is_committed, a_page_holds_what_is_pending, a_partial_rollback_is_legal,
+    a_damaged_area_has_no_log, a_finished_transaction_has_nothing_pending,
+    a_legal_history_is_in_order, a_log_without_records_is_legal,
+    a_need_is_the_most_of_all_suffixes, a_page_holds_what_is_committed,
+    a_page_holds_what_is_pending, a_partial_rollback_is_legal,
     a_prefix_of_a_history_in_order_is_in_order, a_prefix_of_a_legal_history_is_legal,
     a_rollback_is_legal, all_pending_is_of_each_transaction, an_act_determines_its_record,
     an_area_has_one_log, an_undo_is_in_order, every_history_can_be_restarted,

@@ -64,7 +64,7 @@ fn leave(
     Ok(())
 }
 
-// So many bytes from there on.
+// `len` bytes from `start` on.
 fn piece(bytes: &[u8], start: usize, len: usize) -> &[u8]
     requires { start + len ≤ length bytes.now }
     ensures value { result.now ≡ take len (drop start bytes.now) }

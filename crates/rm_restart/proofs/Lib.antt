@@ -1,5 +1,6 @@
 pub mod Misfits
 pub mod Openings
 pub mod Soundness
+pub mod OneDamage
 pub mod PlainLaws
 pub mod PlainUndo

@@ -14,17 +14,17 @@ use Rattle.rm_model.specs.Files.{page_at, slots_of}
 use Rattle.rm_record.specs.declared.records.LogRecord.{LogRecord}
 use Rattle.rm_record.specs.declared.records.LogRecord.TheVariants.{Insert}
 use Rattle.rm_record.specs.declared.records.Logged.{Logged}
-use Rattle.rm_history.specs.Acts.{History, changes, undoes, enters, commits, ends, marks, act_at, act_of, acts_onto, acts_of}
+use Rattle.rm_history.specs.Acts.{Act, History, changes, undoes, enters, commits, ends, marks, act_at, act_of, acts_onto, acts_of}
 use Rattle.rm_history.specs.Contents.{page_of}
 use Rattle.rm_history.specs.Counts.{repeat_count}
-use Rattle.rm_history.specs.Batched.{AreBelow}
+use Rattle.rm_history.specs.Batched.{IsBelow, AreBelow}
 use Rattle.rm_history.proofs.Appending.{acts_onto-append, acts_of-snoc, lsn_of-act_at}
 use Rattle.rm_restart.specs.declared.replay.ReplayRefused.{ReplayRefused}
 use Rattle.rm_restart.specs.declared.replay.ReplayRefused.TheVariants.{Misfit, NoMemory}
-use Rattle.rm_restart.specs.Plain.{ArePlain}
+use Rattle.rm_restart.specs.Plain.{IsPlain, ArePlain}
 use Rattle.rm_restart.specs.declared.replay.Replay.{Replay}
-use Rattle.rm_restart.specs.Opening.{IsMisfit, IsMisfitAt}
-use Rattle.rm_restart.specs.Replaying.{Replays, LacksPlace}
+use Rattle.rm_restart.specs.Opening.{IsMisfit, HasNoMisfit, IsMisfitAt}
+use Rattle.rm_restart.specs.Replaying.{FitBefore, Replays, LacksPlace}
 use Rattle.rm_restart.specs.Refusals.{IfMisfit}
 
 -- a history has no more records that restart repeats than records
@@ -70,12 +70,25 @@ acts_of-around records i logged inside is =
     let rest = acts_onto-after (act_of logged ∷ acts_of prefix) back in
     (rest.0, ap acts_of split ∙ acts_onto-append [] prefix (logged ∷ back) ∙ rest.1)
 
+-- a record that names a page of the file, is plain, and leaves pages that fit is no misfit
+pub not_misfit : (pages : ℕ) (before : History) (act : Act) → IsBelow pages act → IsPlain act
+    → ((page : ℕ) → used (page_of (act ∷ before) page) ≤ CAPACITY) → IsMisfit pages before act → ⊥
+not_misfit pages before act below plain fits (inl outside) = outside below
+not_misfit pages before act below plain fits (inr (inl other)) = other plain
+not_misfit pages before act below plain fits (inr (inr over)) = omega (arith, fits over.0, over.1)
+
+no_misfits : (pages : ℕ) (history : History) → AreBelow pages history → ArePlain history
+    → ((page : ℕ) → used (page_of history page) ≤ CAPACITY) → FitBefore history → HasNoMisfit pages history
+no_misfits pages [] below plain fits fitted = tt
+no_misfits pages (act ∷ before) below plain fits fitted =
+    (not_misfit pages before act below.0 plain.0 fits, no_misfits pages before below.1 plain.1 fitted.0 fitted.1)
+
 -- a misfit so far is the first of all records
-pub misfit_of_all : (pages : ℕ) (records : List Logged) (i : ℕ) (logged : Logged) (refused : ReplayRefused) → i < length records → logged ≡ get_or records i logged
-    → AreBelow pages (acts_of (take i records)) → ArePlain (acts_of (take i records)) → ((page : ℕ) → used (page_of (acts_of (take i records)) page) ≤ CAPACITY)
+pub misfit_of_all : (pages : ℕ) (records : List Logged) (i : ℕ) (logged : Logged) (replay : Replay) (refused : ReplayRefused) → i < length records → logged ≡ get_or records i logged
+    → Replays pages (acts_of (take i records)) replay
     → IfMisfit refused (λ at. (at ≡ logged.lsn) × IsMisfit pages (acts_of (take i records)) (act_of logged))
     → IfMisfit refused (λ at. IsMisfitAt pages (acts_of records) at.0)
-misfit_of_all pages records i logged (Misfit at) inside is below plain fits misfit =
+misfit_of_all pages records i logged replay (Misfit at) inside is replays misfit =
     let around = acts_of-around records i logged inside is in
     record {
       more = around.0;
@@ -83,12 +96,10 @@ misfit_of_all pages records i logged (Misfit at) inside is below plain fits misf
       before = acts_of (take i records);
       split = around.1;
       place = (λ j. (misfit.0 j).0) ∙ sym (lsn_of-act_at logged.lsn.0 logged.what);
-      below = below;
-      plain = plain;
-      fits = fits;
       misfit = misfit.1;
+      first = no_misfits pages (acts_of (take i records)) replays.below replays.plain replays.fits replays.fitted;
     }
-misfit_of_all pages records i logged NoMemory inside is below plain fits misfit = tt
+misfit_of_all pages records i logged replay NoMemory inside is replays misfit = tt
 
 -- a row that has no place there makes its insert a misfit
 lacks_place : (pages : ℕ) (history : History) (replay : Replay) (lsn : ℕ) (txn : TxnId) (under : Lsn) (rid : Rid) (need : ℕ) (row : List ℕ) → Replays pages history replay

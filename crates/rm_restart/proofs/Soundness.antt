@@ -16,9 +16,8 @@ use Rattle.rm_types.specs.declared.formats.Format.{Format}
 use Rattle.rm_types.specs.declared.formats.Format.TheVariants.{One}
 use Rattle.rm_history.specs.Acts.{Act, History, changes, undoes, enters, commits, ends, marks}
 use Rattle.rm_history.specs.Pending.{pending_of}
-use Rattle.rm_history.specs.Needs.{Fits}
 use Rattle.rm_history.specs.Rules.{IsInOrder}
-use Rattle.rm_history.specs.Batched.{acts_of_batches, IsBelow, AreBelow}
+use Rattle.rm_history.specs.Batched.{acts_of_batches, AreBelow}
 use Rattle.rm_history.proofs.Readings.{log_once}
 use Rattle.rm_history.proofs.Damages.{damaged_has_no_log}
 use Rattle.rm_history.proofs.Prefixes.{prefixes_are_in_order}
@@ -29,11 +28,13 @@ use Rattle.rm_image.proofs.SoundLaws.{log_images_are_sound}
 use Rattle.rm_image.proofs.CheckpointLaws.{checkpoints_are_records}
 use Rattle.rm_restart.specs.Plain.{IsPlain, ArePlain}
 use Rattle.rm_restart.specs.Sound.{PlainRules, start_of, IsImageOf, IsSoundLog, IsPlainImage, Holds}
-use Rattle.rm_restart.specs.Opening.{Opens, NeedsUndoOf, IsDamage, IsMisfit, IsMisfitAt, IsMisfitOf, NamesCheckpoint}
+use Rattle.rm_restart.specs.Opening.{Opens, NeedsUndoOf, IsDamage, IsMisfitAt, IsMisfitOf, NamesCheckpoint}
 use Rattle.rm_restart.specs.Laws.{IsReadFrom}
+use Rattle.rm_restart.proofs.Misfits.{not_misfit}
+use Rattle.rm_restart.proofs.PlainLaws.{page_fits}
 
 -- an area has one reading
-fields_once : (area : Bytes) (f g : Fields) → HasFields area f → HasFields area g → f ≡ g
+pub fields_once : (area : Bytes) (f g : Fields) → HasFields area f → HasFields area g → f ≡ g
 fields_once area f g f_has g_has = one_shown area (slot_at (current area)) f g f_has.rules g_has.rules f_has.slot g_has.slot
 
 -- ---- plain images
@@ -97,7 +98,7 @@ plain_image pages batches c image log = record {
 pub sound_is_made : (content : Image) → IsUnmade content → IsPlainImage content → ⊥
 sound_is_made content unmade image = unmade image.sound.master.made
 
-master_not_damaged : (area : Bytes) (at : ℕ) (fields : Fields) → IsMasterDamagedAt area at → HasFields area fields → ⊥
+pub master_not_damaged : (area : Bytes) (at : ℕ) (fields : Fields) → IsMasterDamagedAt area at → HasFields area fields → ⊥
 master_not_damaged area at fields damaged has =
     damaged.none fields has.rules (subst (λ (n : ℕ). Shows area n (slot_bytes fields)) (sym damaged.place) has.slot)
 
@@ -116,18 +117,13 @@ below_after : (pages : ℕ) (more before : History) → AreBelow pages (more ++ 
 below_after pages [] before all = all
 below_after pages (newest ∷ more) before all = below_after pages more before all.1
 
-not_misfit : (pages : ℕ) (before : History) (act : Act) → IsBelow pages act → IsPlain act → Fits (act ∷ before) → IsMisfit pages before act → ⊥
-not_misfit pages before act below plain fits (inl outside) = outside below
-not_misfit pages before act below plain fits (inr (inl other)) = other plain
-not_misfit pages before act below plain fits (inr (inr over)) = omega (arith, fits over.0 0, over.1)
-
 none_misfits : (pages : ℕ) (history : History) (at : ℕ) → IsInOrder history → ArePlain history → AreBelow pages history → IsMisfitAt pages history at → ⊥
 none_misfits pages history at ordered plain below misfit =
     let here : History = misfit.act ∷ misfit.before in
     let ordered_here : IsInOrder here = prefixes_are_in_order misfit.more here (subst IsInOrder misfit.split ordered) in
     let plain_here : ArePlain here = after IsPlain misfit.more here (subst ArePlain misfit.split plain) in
     let below_here : AreBelow pages here = below_after pages misfit.more here (subst (AreBelow pages) misfit.split below) in
-    not_misfit pages misfit.before misfit.act below_here.0 plain_here.0 ordered_here.1.fits misfit.misfit
+    not_misfit pages misfit.before misfit.act below_here.0 plain_here.0 (page_fits here ordered_here) misfit.misfit
 
 no_misfit : (content : Image) (at : ℕ) → IsMisfitOf content at → IsPlainImage content → ⊥
 no_misfit content at misfit image =

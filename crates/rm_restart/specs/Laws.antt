@@ -16,6 +16,10 @@ DamagedIsNotSound = (content : Image) (area : Area) (at : ℕ) → IsDamage cont
 abbrev pub UnmadeIsNotSound : Type 0
 UnmadeIsNotSound = (content : Image) → IsUnmade content → IsPlainImage content → ⊥
 
+-- a volume is damaged at one place alone
+abbrev pub OnePlaceIsDamaged : Type 0
+OnePlaceIsDamaged = (content : Image) (area other : Area) (at place : ℕ) → IsDamage content area at → IsDamage content other place → (area ≡ other) × (at ≡ place)
+
 -- a volume that was just made is sound, and has no commits and no rows
 abbrev pub FreshIsSound : Type 0
 FreshIsSound = (pages : ℕ) (content : Image) → IsFresh pages content → (held : Holds 0 (λ rid. None) content) × (held.image.fields.pages ≡ pages)

@@ -1,5 +1,5 @@
 -- What an opening finds in a volume.
-use Rattle.std.specs.Prelude.{◌≡◌, ℕ, ◌+◌, ◌<◌, ◌≤◌, ◌⊎◌, List, [], ◌∷◌, ◌++◌, length}
+use Rattle.std.specs.Prelude.{◌≡◌, ℕ, ◌+◌, ◌<◌, ◌⊎◌, List, [], ◌∷◌, ◌++◌, length}
 use Rattle.rm_types.specs.declared.areas.Area.{Area}
 use Rattle.rm_types.specs.declared.areas.Area.TheVariants.{Master, Log, Data, Space, Copy}
 use Rattle.rm_types.specs.declared.slots.Slot.{Slot}
@@ -54,6 +54,11 @@ pub record NeedsUndoOf (modelled : Type 0) (content : Image) (id : ℕ) : Type 0
 abbrev pub IsMisfit : ℕ → History → Act → Type 0
 IsMisfit pages before act = (IsBelow pages act → ⊥) ⊎ ((IsPlain act → ⊥) ⊎ ((page : ℕ) × (CAPACITY < used (page_of (act ∷ before) page))))
 
+-- no record of the history is one
+abbrev pub HasNoMisfit : ℕ → History → Type 0
+HasNoMisfit pages [] = Unit {0}
+HasNoMisfit pages (act ∷ before) = (IsMisfit pages before act → ⊥) × HasNoMisfit pages before
+
 -- The record with this LSN is the first that names no page of the file, or is of a kind that no log has yet, or with
 -- which its page does not fit.
 pub record IsMisfitAt (pages : ℕ) (history : History) (at : ℕ) : Type 0 where
@@ -62,10 +67,8 @@ pub record IsMisfitAt (pages : ℕ) (history : History) (at : ℕ) : Type 0 wher
   pub before : History
   pub split : history ≡ more ++ act ∷ before
   pub place : at ≡ lsn_of act
-  pub below : AreBelow pages before
-  pub plain : ArePlain before
-  pub fits : (page : ℕ) → used (page_of before page) ≤ CAPACITY
   pub misfit : IsMisfit pages before act
+  pub first : HasNoMisfit pages before
 
 -- The master names a checkpoint, which no log has yet.
 pub record NamesCheckpoint (content : Image) (at : ℕ) : Type 0 where

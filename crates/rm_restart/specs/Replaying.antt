@@ -22,13 +22,20 @@ abbrev pub has_some : List Change → Bool
 has_some [] = false
 has_some (newest ∷ before) = true
 
+-- each page fits before each record of the history
+abbrev pub FitBefore : History → Type 0
+FitBefore [] = Unit {0}
+FitBefore (act ∷ before) = ((page : ℕ) → used (page_of before page) ≤ CAPACITY) × FitBefore before
+
 -- The pages are those of the history, which is plain and has these pending transactions, this greatest id and this many inserts.
+-- They fit, and did before each record.
 pub record Replays (pages : ℕ) (history : History) (replay : Replay) : Type 0 where
   pub count : length (slots_of replay.pages.items) ≡ pages
   pub below : AreBelow pages history
   pub plain : ArePlain history
   pub pages_are : (page : ℕ) → page < pages → page_at (slots_of replay.pages.items) page ≡ page_of history page
   pub fits : (page : ℕ) → used (page_of history page) ≤ CAPACITY
+  pub fitted : FitBefore history
   pub pending_are : (id : ℕ) → contains nat_cmp replay.pending id ≡ has_some (pending_of history id)
   pub greatest_is : replay.greatest ≡ greatest_txn history
   pub inserts_are : replay.inserts ≡ repeat_count history

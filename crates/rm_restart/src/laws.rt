@@ -1,10 +1,15 @@
 //! Laws of soundness. A law is a function without code: its contract is what is proved.
 
-ghost use Rattle.rm_restart.specs.Laws.{DamagedIsNotSound, UnmadeIsNotSound, FreshIsSound, OpenedIsSound, OpenedNeedsNoUndo};
+ghost use Rattle.rm_restart.specs.Laws.{DamagedIsNotSound, OnePlaceIsDamaged, UnmadeIsNotSound, FreshIsSound, OpenedIsSound, OpenedNeedsNoUndo};
 
 /// A volume that is damaged is not sound: no restart of a sound one ends with [`rm_types::Fault::Damaged`].
 pub fn what_is_damaged_is_not_sound()
     ensures { DamagedIsNotSound }
+{}
+
+/// A volume is damaged at one place alone: the one that [`restart`](crate::restart) names.
+pub fn one_place_is_damaged()
+    ensures { OnePlaceIsDamaged }
 {}
 
 /// A volume that is not made is not sound.

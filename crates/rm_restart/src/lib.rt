@@ -14,6 +14,6 @@ mod replay;
 pub use faults::RestartFault;
 pub use laws::{
     a_fresh_volume_is_sound, an_opened_volume_is_sound, an_opened_volume_needs_no_undo,
-    what_is_damaged_is_not_sound, what_is_not_made_is_not_sound,
+    one_place_is_damaged, what_is_damaged_is_not_sound, what_is_not_made_is_not_sound,
 };
 pub use opening::{Opened, Report, restart};

@@ -11,12 +11,3 @@ pub(crate) fn lines(alloc: Global, text: &str) -> Result<String, Fail> {
     }
     Ok(made)
 }
-
-/// The bytes as two hexadecimal digits each.
-pub(crate) fn hex(alloc: Global, bytes: &[u8]) -> Result<String, Fail> {
-    let mut made = String::new(alloc);
-    for byte in bytes {
-        made.push_str(format!(in alloc; "{byte:02x}")?.as_str())?;
-    }
-    Ok(made)
-}

@@ -1,11 +1,10 @@
 //! The commands over a volume in memory, and what a crash of it leaves.
 
 use crate::commands::run;
-use crate::records::record;
-use crate::texts::{hex, lines};
+use crate::texts::lines;
 use rm_memory::MemVolume;
 use rm_outside::Volume;
-use rm_types::Area;
+use rm_types::{Area, MAX_ROW};
 use std::alloc::Global;
 use std::process::Abort;
 use std::test::Fail;
@@ -90,30 +89,38 @@ fn a_session_on_a_new_volume_has_these_bytes(rt: HostRuntime) -> Result<(), Fail
     let mut master = [7; 100];
     assert_eq!(rt; volume.read(Area::Master, 0, &mut master), Ok(()));
     assert_eq!(rt; &master[..2], [1, 0].as_slice());
-    assert_eq!(rt; hex(rt.alloc(), &master[64..])?.as_str(), SLOT);
+    assert_eq!(rt; hex::encode(rt.alloc(), &master[64..])?.as_str(), SLOT);
     let mut log = [7; 36];
     assert_eq!(rt; volume.read(Area::Log, 0, &mut log), Ok(()));
-    assert_eq!(rt; hex(rt.alloc(), &log)?.as_str(), LOG);
+    assert_eq!(rt; hex::encode(rt.alloc(), &log)?.as_str(), LOG);
     Ok(())
 }
 
-/// Records of a log of one batch, the bytes that are cut from their end, and what an opening of two pages prints.
-const OPENINGS: &str = "1 insert 0 1.0 0 07*3; 1 commit|0|records 1 applied 1 undone 0;
-1 insert 0 1.0 0 07*3|0|error 15 needs undo 1;
-1 insert 0 1.0 0 07*4076; 1 insert 5 2.0 0 07*0|0|error 9 damaged log 4104;
-1 insert 0 1.0 0 07*4076; 1 insert 5 1.1 0 07*1|0|error 9 damaged log 4104;
-1 insert 0 1.0 0 07*3; 1 end|0|error 9 damaged log 31;
-1 commit; 2 commit|0|records 0 applied 0 undone 0;
-1 commit; 2 commit|1|error 9 damaged log 10;
-0 commit|0|error 9 damaged log 5;";
+/// A log of one batch, as the bytes of its records (docs/FORMATS.md), `07*3` for three bytes 07: what an opening of two
+/// pages prints.
+const OPENINGS: &str =
+    "01 00000001 0000000000000000 00000001 0000 0000 0003 07*3 06 00000001|records 1 applied 1 undone 0;
+01 00000001 0000000000000000 00000001 0000 0000 0003 07*3|error 15 needs undo 1;
+01 00000001 0000000000000000 00000001 0000 0000 0fec 07*4076 \
+01 00000001 0000000000000005 00000002 0000 0000 0000|error 9 damaged log 4104;
+01 00000001 0000000000000000 00000001 0000 0000 0fec 07*4076 \
+01 00000001 0000000000000005 00000001 0001 0000 0001 07|error 9 damaged log 4104;
+01 00000001 0000000000000000 00000001 0000 0000 0003 07*3 07 00000001|error 9 damaged log 31;
+06 00000001 06 00000002|records 0 applied 0 undone 0;
+06 00000001 06 000000|error 9 damaged log 10;
+06 00000000|error 9 damaged log 5;";
 
-/// A batch of these records, of which that many bytes are cut: an open gate, the length, and the rest.
-fn batch(alloc: Global, records: &str, cut: usize) -> Result<Vec<u8>, Fail> {
+/// A batch of these records: an open gate, the length, and the records.
+fn batch(alloc: Global, records: &str) -> Result<Vec<u8>, Fail> {
     let mut bytes = Vec::new(alloc);
-    for text in records.split(';') {
-        record(alloc, text)?.encode(&mut bytes)?;
+    for word in records.split(' ') {
+        let (digits, count) = word.split_once('*').unwrap_or((word, "1"));
+        let piece = hex::decode(alloc, digits)?.repeat(
+            alloc,
+            count.parse::<usize>()?.min(MAX_ROW),
+        )?;
+        bytes.extend_from_slice(&piece)?;
     }
-    bytes.truncate(bytes.len().saturating_sub(cut));
     let length = u32::try_from(bytes.len())?.to_be_bytes();
     Ok([&[1], length.as_slice(), &bytes].concat(alloc)?)
 }
@@ -122,9 +129,8 @@ fn batch(alloc: Global, records: &str, cut: usize) -> Result<Vec<u8>, Fail> {
 fn an_opening_reads_the_log(rt: HostRuntime) -> Result<(), Fail> {
     let alloc = rt.alloc();
     for case in OPENINGS.split('\n') {
-        let (records, rest) = case.split_once('|').ok_or("no records")?;
-        let (cut, due) = rest.split_once('|').ok_or("no line")?;
-        let batch = batch(alloc, records, cut.parse::<usize>()?)?;
+        let (records, due) = case.split_once('|').ok_or("no line")?;
+        let batch = batch(alloc, records)?;
         assert!(rt; batch.len() < 10_000);
         let mut volume = made(alloc, 2)?;
         assert_eq!(rt; volume.write(Area::Log, 0, &batch), Ok(()));

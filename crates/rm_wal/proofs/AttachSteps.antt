@@ -4,10 +4,10 @@ use Rattle.rm_types.specs.declared.numbers.TheConstants.{MAX_LOG}
 use Rattle.rm_outside.specs.Images.{Bytes, Shows}
 use Rattle.rm_record.specs.declared.records.Logged.{Logged}
 use Rattle.rm_history.specs.declared.TheConstants.{BATCH_HEADER}
-use Rattle.rm_history.specs.Logs.{gate_of, body_of, IsBatch, IsDamagedAt}
+use Rattle.rm_history.specs.Logs.{gate_of, body_of, IsBatch, IsWrongAfter, IsDamagedAt}
 use Rattle.rm_history.specs.Acts.{History}
 use Rattle.rm_history.specs.Batched.{acts_after, acts_of_batches}
-use Rattle.rm_wal.specs.Batches.{ReadsBatch, ReadsBatches, IsWrongAfter}
+use Rattle.rm_wal.specs.Batches.{ReadsBatch, ReadsBatches}
 
 -- no batch yet
 pub reads_no_batch : (modelled : Type 0) (area : Bytes) → ReadsBatches modelled area 0 []
@@ -39,5 +39,4 @@ gates_rise one = (omega (arith, one.next_is, one.is.range.some), omega (arith, o
 -- no batch stands after the next gate, which is open
 pub damaged_there : {modelled : Type 0} {area : Bytes} {gate at : ℕ} {records : List Logged} → ReadsBatches modelled area gate records → modelled → IsWrongAfter area gate at → IsDamagedAt area at
 damaged_there {area = area} {at = at} before models wrong =
-    let there : IsWrongAfter area (gate_of before.batches) at = subst (λ (n : ℕ). IsWrongAfter area n at) before.gate_is wrong in
-    record { batches = before.batches; stands = before.stands models; begun = there.begun; wrong = there.wrong }
+    record { batches = before.batches; stands = before.stands models; wrong = subst (λ (n : ℕ). IsWrongAfter area n at) before.gate_is wrong }

@@ -9,8 +9,8 @@ use Rattle.rm_outside.proofs.ShowsLemmas.{shows_front, shows_back, shows_both, s
 use Rattle.rm_record.specs.declared.records.LogRecord.{LogRecord}
 use Rattle.rm_record.specs.Records.{spelling, spelling_all, IsRecord}
 use Rattle.rm_history.specs.declared.TheConstants.{BATCH_HEADER}
-use Rattle.rm_history.specs.Logs.{IsInRange}
-use Rattle.rm_wal.specs.Batches.{BeginsWithNone, StopsAt, IsOutOfRange, IsOpen, ReadsHeader, IsWrongAfter}
+use Rattle.rm_history.specs.Logs.{IsInRange, IsWrongAfter}
+use Rattle.rm_wal.specs.Batches.{BeginsWithNone, StopsAt, IsOutOfRange, IsOpen, ReadsHeader}
 
 -- the gate and the length, of the header that stands there
 shows_header : {area : Bytes} {gate : ℕ} (len : ℕ) → Shows area gate (1 ∷ to_be_bytes w32 len) → (area gate ≡ 1) × Shows area (gate + 1) (to_be_bytes w32 len)

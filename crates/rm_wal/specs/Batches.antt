@@ -1,5 +1,5 @@
 -- What is read from a batch.
-use Rattle.std.specs.Prelude.{◌≡◌, ℕ, ◌+◌, ◌^◌, ◌<◌, List, [], ◌∷◌, ◌++◌, length, drop, Option, Some, None, ◌⊎◌}
+use Rattle.std.specs.Prelude.{◌≡◌, ℕ, ◌+◌, ◌^◌, ◌<◌, List, [], ◌∷◌, ◌++◌, length, drop, Option, Some, None}
 use Rattle.std.specs.Int.{to_be_bytes, w32}
 use Rattle.std.specs.List.{AllByRecursion}
 use Rattle.rm_outside.specs.Images.{Bytes, Shows}
@@ -7,7 +7,7 @@ use Rattle.rm_record.specs.declared.records.LogRecord.{LogRecord}
 use Rattle.rm_record.specs.declared.records.Logged.{Logged}
 use Rattle.rm_record.specs.Records.{spelling, spelling_all, IsRecord}
 use Rattle.rm_history.specs.declared.TheConstants.{BATCH_HEADER}
-use Rattle.rm_history.specs.Logs.{Batch, gate_of, body_of, IsInRange, IsBatch, AreBatches, Stands, HasWrongLength, HasWrongRecord}
+use Rattle.rm_history.specs.Logs.{Batch, gate_of, body_of, IsInRange, IsBatch, AreBatches, Stands}
 use Rattle.rm_history.specs.Acts.{acts_of}
 use Rattle.rm_history.specs.Batched.{acts_after, acts_of_batches}
 
@@ -78,11 +78,6 @@ pub record ReadsBatch (modelled : Type 0) (area : Bytes) (gate next : ℕ) (old 
 abbrev pub ReadsGate : Type 0 → Bytes → ℕ → List Logged → List Logged → Option ℕ → Type 0
 ReadsGate modelled area gate old new None = (modelled → area gate ≡ 1 → ⊥) × (new ≡ old)
 ReadsGate modelled area gate old new (Some next) = ReadsBatch modelled area gate next old new
-
--- the gate is open, and no batch stands after it
-pub record IsWrongAfter (area : Bytes) (gate at : ℕ) : Type 0 where
-  pub begun : area gate ≡ 1
-  pub wrong : HasWrongLength area gate at ⊎ HasWrongRecord area gate at
 
 -- the batches before a gate were read, and their records are these, the oldest first
 pub record ReadsBatches (modelled : Type 0) (area : Bytes) (gate : ℕ) (records : List Logged) : Type 0 where

@@ -6,8 +6,8 @@ ghost use Rattle.rm_types.specs.declared.areas.Area.{Area as Areas};
 ghost use Rattle.rm_types.specs.declared.numbers.TheConstants.{MAX_LOG};
 ghost use Rattle.rm_outside.specs.Calls.{HasBytes, OnlyReads, StoreFailsIn};
 ghost use Rattle.rm_history.specs.declared.TheConstants.{BATCH_HEADER};
-ghost use Rattle.rm_history.specs.Logs.{IsInRange};
-ghost use Rattle.rm_wal.specs.Batches.{IsOutOfRange, IsWrongAfter, ReadsHeader, ReadsGate};
+ghost use Rattle.rm_history.specs.Logs.{IsInRange, IsWrongAfter};
+ghost use Rattle.rm_wal.specs.Batches.{IsOutOfRange, ReadsHeader, ReadsGate};
 
 use crate::flushing::OPEN;
 use crate::parsing::{damaged, read_records};

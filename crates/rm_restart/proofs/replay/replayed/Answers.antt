@@ -12,7 +12,7 @@ pub returns-in_err-apply-clause-misfit : goal.returns-in_err-apply-clause-misfit
 returns-in_err-apply-clause-misfit c =
     let before = c.loop-logged.invariant in
     let p = err_from_is_err_and c.from_residual-in_err-apply.result c.from_residual-in_err-apply.ensures.1 in
-    rw (p.1, p.2) (misfit_of_all c.args.pages c.args.records.now c.loop-logged.logged-index c.logged-item.result c.in_err-apply.field-0.0 c.loop-logged-test.true c.logged-item.is before.below before.plain before.fits
+    rw (p.1, p.2) (misfit_of_all c.args.pages c.args.records.now c.loop-logged.logged-index c.logged-item.result c.loop-logged.replay c.in_err-apply.field-0.0 c.loop-logged-test.true c.logged-item.is before
     (c.in_err-apply.ensures.misfit c.args.pages (acts_of (take c.loop-logged.logged-index c.args.records.now)) before))
 
 pub loop-logged-preserved : goal.loop-logged-preserved

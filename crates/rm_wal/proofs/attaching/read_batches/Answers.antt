@@ -3,7 +3,8 @@ use Rattle.std.proofs.lemmas.Result.{err_from_is_err_and}
 use Rattle.rm_types.specs.declared.areas.Area.TheVariants.{Log}
 use Rattle.rm_outside.specs.Images.{Image}
 use Rattle.rm_outside.proofs.CallLemmas.{reads_none, reads_then}
-use Rattle.rm_wal.specs.Batches.{ReadsBatch, IsWrongAfter}
+use Rattle.rm_history.specs.Logs.{IsWrongAfter}
+use Rattle.rm_wal.specs.Batches.{ReadsBatch}
 use Rattle.rm_wal.proofs.AttachSteps.{reads_no_batch, reads_next_batch, gates_rise, damaged_there}
 use Rattle.rm_wal.proofs.attaching.read_batches.Goals as goal
 

@@ -1,7 +1,6 @@
 //! The bytes of log records (docs/FORMATS.md).
 
 use crate::records::record;
-use crate::texts::hex;
 use rm_record::{DecodeRefused, LogRecord};
 use std::alloc::Global;
 use std::test::Fail;
@@ -49,7 +48,10 @@ fn a_record_is_its_bytes(rt: HostRuntime) -> Result<(), Fail> {
         let (text, digits) = line.split_once('|').ok_or("no bytes")?;
         let words: Vec<&str> = digits.split_whitespace().collect(alloc)?;
         let bytes = encoded(alloc, record(alloc, text)?)?;
-        assert_eq!(rt; hex(alloc, &bytes)?.as_str(), words.concat(alloc)?.as_str());
+        assert_eq!(rt;
+            hex::encode(alloc, &bytes)?.as_str(),
+            words.concat(alloc)?.as_str()
+        );
         let more = [bytes.as_slice(), b"after"].concat(alloc)?;
         let (found, size) = LogRecord::decode(alloc, &more)?;
         assert_eq!(rt; size, bytes.len(), "{text}");
