@@ -22,7 +22,7 @@ use Rattle.rm_history.specs.Batched.{acts_of_batches}
 use Rattle.rm_wal.specs.Tails.{LogValue}
 use Rattle.rm_restart.specs.Opening.{Opens}
 use Rattle.rm_restart.specs.Outcomes.{Explains}
-use Rattle.rm_restart.specs.Sound.{IsImageOf, IsPlainImage}
+use Rattle.rm_restart.specs.Sound.{IsImageOf}
 use Rattle.rm_restart.specs.declared.faults.RestartFault.{RestartFault}
 use Rattle.rm_restart.proofs.Soundness.{opened_is_sound}
 use Rattle.rm_engine.specs.declared.engine.Engine.{Engine}

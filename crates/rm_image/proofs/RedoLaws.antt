@@ -1,10 +1,9 @@
 -- Redo brings a block that stands for a log up to the log.
-use Rattle.std.proofs.Common.{◌≡◌, inl, inr, ℕ, ◌+◌, ◌*◌, ◌≤◌, ◌<◌, ◌&&◌, Bool, true, false, cond, nat_le, nat_lt, List, []}
+use Rattle.std.proofs.Common.{◌≡◌, inl, inr, ℕ, ◌+◌, ◌*◌, ◌≤◌, ◌<◌, ◌&&◌, Bool, true, false, cond, nat_le, nat_lt, []}
 use Rattle.std.proofs.Common.{◌∷◌, refl, sym, ap, subst, ◌∙◌, arith}
 use Rattle.std.proofs.Math.Bool.{and-false}
 use Rattle.std.proofs.lemmas.Bool.{cases_lt, le-leb, le-ltb, and_from}
 use Rattle.rm_types.specs.declared.numbers.TheConstants.{BLOCK_PAGES}
-use Rattle.rm_types.specs.declared.slots.Slot.{Slot}
 use Rattle.rm_history.specs.Acts.{Act, History, lsn_of, newest_lsn}
 use Rattle.rm_history.specs.Contents.{page_after, version_after, entry_after, block_version_after}
 use Rattle.rm_history.specs.Rules.{IsInOrder}

@@ -10,7 +10,7 @@ use Rattle.rm_history.specs.Acts.{Act, History, lsn_of}
 use Rattle.rm_history.specs.Batched.{acts_of_batches}
 use Rattle.rm_history.proofs.Readings.{log_once}
 use Rattle.rm_history.proofs.Damages.{damaged_has_no_log, damage_once}
-use Rattle.rm_restart.specs.Opening.{IsDamage, IsLogDamage, IsMisfit, HasNoMisfit, IsMisfitAt, IsMisfitOf, NamesCheckpoint}
+use Rattle.rm_restart.specs.Opening.{IsDamage, IsMisfit, HasNoMisfit, IsMisfitAt, IsMisfitOf, NamesCheckpoint}
 use Rattle.rm_restart.proofs.Soundness.{fields_once, master_not_damaged}
 
 -- what the master of a damaged log names

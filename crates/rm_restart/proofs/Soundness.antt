@@ -22,8 +22,8 @@ use Rattle.rm_history.proofs.Readings.{log_once}
 use Rattle.rm_history.proofs.Damages.{damaged_has_no_log}
 use Rattle.rm_history.proofs.Prefixes.{prefixes_are_in_order}
 use Rattle.rm_image.specs.Starts.{Start}
-use Rattle.rm_image.specs.Whole.{IsLogSound, IsSoundBy}
-use Rattle.rm_image.specs.ImageLaws.{IsOfTxn, IsLogImage}
+use Rattle.rm_image.specs.Whole.{IsLogSound}
+use Rattle.rm_image.specs.ImageLaws.{IsOfTxn}
 use Rattle.rm_image.proofs.SoundLaws.{log_images_are_sound}
 use Rattle.rm_image.proofs.CheckpointLaws.{checkpoints_are_records}
 use Rattle.rm_restart.specs.Plain.{IsPlain, ArePlain}

@@ -1,7 +1,6 @@
 -- The pages in memory and the slots that they stand for, and what a reply from them says of a session.
-use Rattle.std.proofs.Common.{◌≡◌, ℕ, ◌+◌, ◌<◌, List, [], length, get_or, set, refl, sym, ap, ◌∙◌, arith, Bool, true, false, IsTrue, inl, inr}
+use Rattle.std.proofs.Common.{◌≡◌, ℕ, ◌+◌, ◌<◌, List, length, get_or, set, refl, sym, ap, ◌∙◌, arith, Bool, true, false, IsTrue, inl, inr}
 use Rattle.std.proofs.lemmas.Bool.{cases_lt, both_ways}
-use Rattle.std.proofs.lemmas.List.{length-map, map-set, get_or-map}
 use Rattle.rm_types.specs.declared.numbers.Lsn.{Lsn}
 use Rattle.rm_types.specs.declared.slots.Slot.{Slot}
 use Rattle.rm_types.specs.declared.slots.Slot.TheVariants.{Row}

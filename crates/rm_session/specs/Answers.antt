@@ -1,11 +1,10 @@
 -- What an operation draws from the pages, under a session that has a transaction or has none.
-use Rattle.std.specs.Prelude.{◌≡◌, ℕ, ◌<◌, List, map, length, Some, None}
+use Rattle.std.specs.Prelude.{◌≡◌, ℕ, ◌<◌, List, length, Some, None}
 use Rattle.rm_types.specs.declared.numbers.Rid.{Rid}
 use Rattle.rm_types.specs.declared.slots.Slot.{Slot}
 use Rattle.rm_types.specs.declared.operations.Op.{Op}
 use Rattle.rm_types.specs.declared.operations.Reply.{Reply}
 use Rattle.rm_types.specs.declared.operations.Reply.TheVariants as reply
-use Rattle.rm_model.specs.Pages.{PageValue}
 use Rattle.rm_model.specs.Object.{IsOutside}
 use Rattle.rm_model.specs.Files.{page_at, rows_of, set_row}
 use Rattle.rm_session.specs.Session.{LacksRoom, IsPlaceFor, IsInside, Core, Comes, MayDraw}
