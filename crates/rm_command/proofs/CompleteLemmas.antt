@@ -38,7 +38,7 @@ settled models content id needs modelled calm =
     let same = log_once (content Log) needs.batches calm.image.batches (needs.read.has_log modelled) calm.image.sound.has_log in
     needs.pends (subst (λ (b : List Batch). pending_of (acts_of_batches b) id ≡ []) (sym same) (calm.none id))
 
-module _ (old new : Facts) (models : IsTrue old.models_content) (well : (area : Area) → HasFailed old new area → ⊥) where
+module _ (old new : Facts) (models : new.models_content) (well : (area : Area) → HasFailed old new area → ⊥) where
   -- a volume that is not made
   create_done : (pages : ℕ) (answer : Status) (text : List ℕ) → (IsMade old.content → ⊥) → CreateText pages old new answer text → IsDone answer
   create_done pages status.Done text unmade due = inl refl
@@ -62,7 +62,7 @@ module _ (old new : Facts) (models : IsTrue old.models_content) (well : (area : 
   opened (status.Volume area) text calm due = absurd (well area due.0)
   opened status.NotMade text calm due = absurd (sound_is_made old.content (due.0 models) calm.image)
   opened (status.Damaged area at) text calm due = absurd (sound_is_not_damaged old.content area at (due.1 models) calm.image)
-  opened (status.NeedsUndo txn) text calm due = absurd (settled (IsTrue old.models_content) old.content txn.0 due.0 models calm)
+  opened (status.NeedsUndo txn) text calm due = absurd (settled new.models_content old.content txn.0 due.0 models calm)
   opened status.Done text calm due = absurd due
   opened status.Usage text calm due = absurd due
   opened (status.BadScript line) text calm due = absurd due
@@ -128,7 +128,7 @@ script_right bytes lines source_failed (status.NeedsUndo txn) text right limits 
 
 -- what is due for `turns`, from a right script and a settled volume
 turns_done : (source : Option (List ℕ)) (source_failed : Type 0) (old new : Facts) (answer : Status) (text bytes : List ℕ) (lines : List Line) → source ≡ Some bytes → IsTurns lines bytes → IsWithinLimits bytes
-    → IsTrue old.models_content → IsSettled old.content → (source_failed → ⊥) → ((area : Area) → HasFailed old new area → ⊥) → (answer ≡ status.Sink → ⊥) → TurnsDue source source_failed old new answer text → IsDoneOrRefused answer
+    → new.models_content → IsSettled old.content → (source_failed → ⊥) → ((area : Area) → HasFailed old new area → ⊥) → (answer ≡ status.Sink → ⊥) → TurnsDue source source_failed old new answer text → IsDoneOrRefused answer
 turns_done source source_failed old new answer text bytes lines is right limits models calm source_well well sink_well (all, had, inl (kept, script)) =
     let same : bytes ≡ all = subst (λ (o : Option (List ℕ)). HasLeft o all) is had in
     inl (inr (script_right all lines source_failed answer text (subst (λ (b : List ℕ). IsTurns lines b) same right) (subst IsWithinLimits same limits) source_well script))
@@ -139,7 +139,7 @@ turns_done source source_failed old new answer text bytes lines is right limits 
 
 -- what is due for a command
 due_right : (named : Option Command) (source : Option (List ℕ)) (source_failed : Type 0) (old new : Facts) (answer : Status) (text : List ℕ) → (source_failed → ⊥) → ((area : Area) → HasFailed old new area → ⊥)
-    → (answer ≡ status.Sink → ⊥) → DueFor named source source_failed old new answer text → EndsRight named source old answer
+    → (answer ≡ status.Sink → ⊥) → DueFor named source source_failed old new answer text → EndsRight named source old new answer
 due_right None source source_failed old new answer text source_well well sink_well due = due.0
 due_right (Some command.Plain) source source_failed old new answer text source_well well sink_well due =
     λ bytes lines is plain limits. plain_done source source_failed answer text bytes lines is plain limits source_well due
@@ -154,7 +154,7 @@ not_sunk Due true sink_failed P sink_well written = absurd (sink_well written.0)
 not_sunk Due false sink_failed P sink_well written = (refl, written)
 
 pub ends_right : (named : Option Command) (source a b : Option (List ℕ)) (source_failed sink_failed : Type 0) (old new : Facts) (answer : Status) → Answers (DueFor named source source_failed old new) a b sink_failed answer
-    → (source_failed → ⊥) → (sink_failed → ⊥) → ((area : Area) → HasFailed old new area → ⊥) → EndsRight named source old answer
+    → (source_failed → ⊥) → (sink_failed → ⊥) → ((area : Area) → HasFailed old new area → ⊥) → EndsRight named source old new answer
 ends_right named source a b source_failed sink_failed old new answer answers source_well sink_well well =
     let due = not_sunk (DueFor named source source_failed old new answer answers.text) (is_sink answer) sink_failed _ sink_well answers.written in
     due_right named source source_failed old new answer answers.text source_well well

@@ -106,7 +106,7 @@ volume_of content = record {
   faults = λ area. 0;
   data_reads = 0;
   log_reads = 0;
-  models_content = true;
+  models_content = Unit {0};
 }
 
 -- `create` is done over areas of zeros; over the volume that it made it is not, and says so
@@ -118,7 +118,7 @@ create_again : CreateText 1 (volume_of made) (volume_of made) status.AlreadyMade
 create_again = (λ models. refl, refl)
 
 not_again : (text : List ℕ) → CreateText 1 (volume_of made) (volume_of made) status.Done text → ⊥
-not_again text due = due.0 refl refl
+not_again text due = due.0 tt refl
 
 -- a commit that is asked next counts, and nothing else does
 asks : (commit_of (Some line.Commit) ≡ 1) × (commit_of (Some line.Begin) ≡ 0) × (commit_of None ≡ 0)

@@ -1,5 +1,5 @@
 -- What is due for the lines of a script, on a volume that was opened.
-use Rattle.std.proofs.Common.{◌≡◌, inl, inr, ℕ, Bool, true, false, List, [], ◌++◌, Option, IsTrue, refl, sym, ap, ◌∙◌, subst, append_assoc, append-nil}
+use Rattle.std.proofs.Common.{◌≡◌, inl, inr, ℕ, Bool, true, false, List, [], ◌++◌, Option, refl, sym, ap, ◌∙◌, subst, append_assoc, append-nil}
 use Rattle.std.specs.Prelude.{MatchBool}
 use Rattle.rm_types.specs.declared.areas.Area.{Area}
 use Rattle.rm_script.specs.declared.lines.Line.{Line}
@@ -8,7 +8,7 @@ use Rattle.rm_types.specs.declared.numbers.TheConstants.{MAX_LOG}
 use Rattle.rm_types.specs.declared.operations.Reply.{Reply}
 use Rattle.rm_types.specs.declared.areas.Area.TheVariants.{Log}
 use Rattle.rm_outside.specs.Images.{Image, KeepsOthers}
-use Rattle.rm_outside.specs.Moments.{joined, weaker}
+use Rattle.rm_outside.specs.Moments.{guarded, joined, weaker}
 use Rattle.rm_outside.specs.Calls.{AllLeft, Facts, HasFailed, LeavesContent, Reading, Writing}
 use Rattle.rm_outside.proofs.FaultLemmas.{Rises-before}
 use Rattle.rm_outside.specs.Streams.{Takes}
@@ -22,9 +22,10 @@ use Rattle.rm_history.specs.Batched.{acts_of_batches}
 use Rattle.rm_wal.specs.Tails.{LogValue}
 use Rattle.rm_restart.specs.Opening.{Opens}
 use Rattle.rm_restart.specs.Outcomes.{Explains}
-use Rattle.rm_restart.specs.Sound.{IsImageOf}
+use Rattle.rm_restart.specs.Sound.{IsImageOf, IsPlainImage}
 use Rattle.rm_restart.specs.declared.faults.RestartFault.{RestartFault}
 use Rattle.rm_restart.proofs.Soundness.{opened_is_sound}
+use Rattle.rm_restart.proofs.Openings.{opens_on}
 use Rattle.rm_engine.specs.declared.engine.Engine.{Engine}
 use Rattle.rm_engine.specs.Numbers.{Used, used_of}
 use Rattle.rm_engine.specs.At.{IsAt}
@@ -80,20 +81,31 @@ at_engine engine pages next log file_pages count rows left session log_is under 
     (subst (λ (s : State). IsAt file_pages count rows s.core log 0 0 left) (sym session) at)))
 
 module _ (old mid new : Facts) (lines : List Line) (pages : List (List Slot)) (next : ℕ) (log : LogValue) (inserted : ℕ) (engine : Engine)
-    (opens : Opens (IsTrue old.models_content) old.content MAX_LOG pages next log inserted)
+    (opens : Opens mid.models_content old.content MAX_LOG pages next log inserted)
     (session : engine.session ≡ opened pages next) (log_is : engine.log ≡ log) (under : engine.under.0 ≡ 0) (inserts : engine.inserts ≡ 0)
+    (only_mid : (c : Image) → mid.may_leave c → mid.models_content) (only_new : (c : Image) → new.may_leave c → new.models_content)
     (synced : LeavesContent mid) (opening : Reading false true old mid) (writes : Writing (KeepsOthers Log) (KeepsOthers Log) mid new) where
-  -- from a sound content on the images are those of the run
-  run_images : (done : List Line) (replies : List Reply) (asked : Option Line) → LeavesRun engine mid new done replies asked → LeavesSound old new done replies asked
-  run_images done replies asked leaves_run models image =
-      let read = opened_is_sound (IsTrue old.models_content) old.content MAX_LOG pages next log inserted opens models image in
-      let at = at_opened (IsTrue old.models_content) old.content MAX_LOG pages next log inserted opens mid.may_leave read.sound_log
+  -- from a sound content on, each image since the opening is one of the run
+  since_opened : (done : List Line) (replies : List Reply) (asked : Option Line) → LeavesRun engine mid new done replies asked → (image : IsPlainImage old.content) → mid.models_content
+      → HasRunImages (commit_count (acts_of_batches image.batches)) (rows_of_log (acts_of_batches image.batches)) mid new done replies asked
+  since_opened done replies asked leaves_run image models =
+      let read = opened_is_sound mid.models_content old.content MAX_LOG pages next log inserted opens models image in
+      let at = at_opened mid.models_content old.content MAX_LOG pages next log inserted opens mid.may_leave read.sound_log
       (λ c may. subst (λ (image : Image). IsImageOf opens.fields.pages opens.batches image) (sym (synced c may ∙ opening.content)) read.image_of) in
       let standing = at_engine engine pages next log opens.fields.pages (commit_count (acts_of_batches opens.batches)) (rows_of_log (acts_of_batches opens.batches)) mid.may_leave session log_is under inserts at in
       let idle : engine.session.core.active ≡ false = ap (λ (s : State). s.core.active) session in
       let run = leaves_run opens.fields.pages (commit_count (acts_of_batches opens.batches)) (rows_of_log (acts_of_batches opens.batches)) standing idle in
-      subst (λ (b : List Batch). HasRunImages (commit_count (acts_of_batches b)) (rows_of_log (acts_of_batches b)) old new done replies asked) (sym read.batches_are)
-      (record { any_moment = joined (weaker opening.time (λ c l. inl l)) (weaker run.0 (λ c has. inr has)); durable = run.1 })
+      subst (λ (b : List Batch). HasRunImages (commit_count (acts_of_batches b)) (rows_of_log (acts_of_batches b)) mid new done replies asked) (sym read.batches_are)
+      (record { any_moment = weaker run.0 (λ c has. inr has); durable = run.1 })
+
+  -- and those before it are images from before
+  run_images : (done : List Line) (replies : List Reply) (asked : Option Line) → LeavesRun engine mid new done replies asked → LeavesSound old new done replies asked
+  run_images done replies asked leaves_run image = record {
+    any_moment = joined (weaker opening.time (λ c left. inl left))
+        (weaker (guarded writes.time only_mid (λ models. (since_opened done replies asked leaves_run image models).any_moment))
+        (λ c. elim [ inl left ↦ inl (opening.crash.each c left) | inr has ↦ inr has ]));
+    durable = λ c now. (since_opened done replies asked leaves_run image (writes.modelled (only_new c now))).durable c now;
+  }
 
   keeps : ChangesBy (KeepsOthers Log) old new
   keeps = record {
@@ -108,7 +120,7 @@ module _ (old mid new : Facts) (lines : List Line) (pages : List (List Slot)) (n
     next = next;
     log = log;
     inserted = inserted;
-    opens = opens;
+    opens = opens_on writes.modelled opens;
     keeps = keeps;
     written = subst (λ (s : State). RunText s (used_of log 0) lines (LeavesSound old new) (HasFailed old new) answer text) session
         (subst (λ (u : Used). RunText engine.session u lines (LeavesSound old new) (HasFailed old new) answer text) uses

@@ -1,5 +1,5 @@
 -- How a command ends where nothing fails.
-use Rattle.std.specs.Prelude.{◌≡◌, ℕ, List, [], Option, Some, None, ◌⊎◌, IsTrue}
+use Rattle.std.specs.Prelude.{◌≡◌, ℕ, List, [], Option, Some, None, ◌⊎◌}
 use Rattle.rm_script.specs.declared.lines.Line.{Line}
 use Rattle.rm_types.specs.declared.numbers.TxnId.{TxnId}
 use Rattle.rm_outside.specs.Images.{Image}
@@ -27,14 +27,14 @@ pub record IsSettled (content : Image) : Type 0 where
   pub image : IsPlainImage content
   pub none : (id : ℕ) → pending_of (acts_of_batches image.batches) id ≡ []
 
--- With a right script, and a volume that is settled, or not made for `create`, a command is done, but for out of
--- memory; `turns` also but for a full log or spent ids.
-abbrev pub EndsRight : Option Command → Option (List ℕ) → Facts → Status → Type 0
-EndsRight None source volume answer = answer ≡ status.Usage
-EndsRight (Some command.Plain) source volume answer =
+-- With a right script, and a volume that is settled, or not made for `create`, and that models its content to the end, a
+-- command is done, but for out of memory; `turns` also but for a full log or spent ids.
+abbrev pub EndsRight : Option Command → Option (List ℕ) → Facts → Facts → Status → Type 0
+EndsRight None source old new answer = answer ≡ status.Usage
+EndsRight (Some command.Plain) source old new answer =
     (bytes : List ℕ) (lines : List Line) → source ≡ Some bytes → IsPlain lines bytes → IsWithinLimits bytes → IsDone answer
-EndsRight (Some (command.Create pages)) source volume answer = IsTrue volume.models_content → (IsMade volume.content → ⊥) → IsDone answer
-EndsRight (Some command.Turns) source volume answer =
+EndsRight (Some (command.Create pages)) source old new answer = new.models_content → (IsMade old.content → ⊥) → IsDone answer
+EndsRight (Some command.Turns) source old new answer =
     (bytes : List ℕ) (lines : List Line) → source ≡ Some bytes → IsTurns lines bytes → IsWithinLimits bytes
-    → IsTrue volume.models_content → IsSettled volume.content → IsDoneOrRefused answer
-EndsRight (Some command.Restart) source volume answer = IsTrue volume.models_content → IsSettled volume.content → IsDone answer
+    → new.models_content → IsSettled old.content → IsDoneOrRefused answer
+EndsRight (Some command.Restart) source old new answer = new.models_content → IsSettled old.content → IsDone answer

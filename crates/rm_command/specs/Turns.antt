@@ -1,5 +1,5 @@
 -- What is due for `turns`.
-use Rattle.std.specs.Prelude.{◌≡◌, ℕ, ◌+◌, ◌-◌, ◌≤◌, List, [], ◌++◌, length, take, slice_get, Option, Some, ◌⊎◌, IsTrue, if◌then◌else◌}
+use Rattle.std.specs.Prelude.{◌≡◌, ℕ, ◌+◌, ◌-◌, ◌≤◌, List, [], ◌++◌, length, take, slice_get, Option, Some, ◌⊎◌, if◌then◌else◌}
 use Rattle.rm_types.specs.declared.areas.Area.{Area}
 use Rattle.rm_script.specs.declared.lines.Line.{Line}
 use Rattle.rm_script.specs.declared.lines.Line.TheVariants as line
@@ -88,9 +88,9 @@ pub record HasRunImages (count : ℕ) (rows : Rows) (old new : Facts) (lines : L
   pub any_moment : AllLeft old new (λ c. old.may_leave c ⊎ HasAsked count rows lines replies next c)
   pub durable : (c : Image) → new.may_leave c → HasAcknowledged count rows lines replies c
 
--- where the content is modelled and sound, from its commits and rows on
+-- where the content is sound, from its commits and rows on
 abbrev pub LeavesSound : Facts → Facts → List Line → List Reply → Option Line → Type 0
-LeavesSound old new done replies asked = IsTrue old.models_content → (image : IsPlainImage old.content)
+LeavesSound old new done replies asked = (image : IsPlainImage old.content)
     → HasRunImages (commit_count (acts_of_batches image.batches)) (rows_of_log (acts_of_batches image.batches)) old new done replies asked
 
 -- The volume was opened, and the lines were done from the pages and the next id that the opening found.
@@ -99,7 +99,7 @@ pub record OpenedText (old new : Facts) (lines : List Line) (answer : Status) (t
   pub next : ℕ
   pub log : LogValue
   pub inserted : ℕ
-  pub opens : Opens (IsTrue old.models_content) old.content MAX_LOG pages next log inserted
+  pub opens : Opens new.models_content old.content MAX_LOG pages next log inserted
   -- no area changes but Log
   pub keeps : ChangesBy (KeepsOthers Log) old new
   pub written : RunText (opened pages next) (used_of log 0) lines (LeavesSound old new) (HasFailed old new) answer text

@@ -1,5 +1,5 @@
 -- What is due for the commands that make a volume and open it.
-use Rattle.std.specs.Prelude.{◌≡◌, ℕ, List, ◌⊎◌, IsTrue}
+use Rattle.std.specs.Prelude.{◌≡◌, ℕ, List, ◌⊎◌}
 use Rattle.rm_types.specs.declared.slots.Slot.{Slot}
 use Rattle.rm_types.specs.declared.numbers.TheConstants.{MAX_LOG}
 use Rattle.rm_outside.specs.Images.{Image}
@@ -17,9 +17,9 @@ use Rattle.rm_command.specs.Status.{error_line}
 
 -- the text of `create`, and why its status comes; made at last is the volume if it is done
 abbrev pub CreateText : ℕ → Facts → Facts → Status → List ℕ → Type 0
-CreateText pages old new status.Done text = (IsTrue old.models_content → IsMade old.content → ⊥) × ((c : Image) → new.may_leave c → IsFresh pages c) × (text ≡ created_line pages)
+CreateText pages old new status.Done text = (new.models_content → IsMade old.content → ⊥) × ((c : Image) → new.may_leave c → IsFresh pages c) × (text ≡ created_line pages)
 CreateText pages old new (status.Volume area) text = HasFailed old new area × (text ≡ error_line (status.Volume area))
-CreateText pages old new status.AlreadyMade text = (IsTrue old.models_content → IsMade old.content) × (text ≡ error_line status.AlreadyMade)
+CreateText pages old new status.AlreadyMade text = (new.models_content → IsMade old.content) × (text ≡ error_line status.AlreadyMade)
 CreateText pages old new status.NoMemory text = text ≡ error_line status.NoMemory
 CreateText pages old new other text = ⊥
 
@@ -33,7 +33,7 @@ pub record ChangesBy (step : Image → Image → Type 0) (old new : Facts) : Typ
 pub record CreateDue (pages : ℕ) (old new : Facts) (answer : Status) (text : List ℕ) : Type 0 where
   pub texts : CreateText pages old new answer text
   pub images : AllLeft old new (λ c. old.may_leave c ⊎ (IsUnmade c ⊎ IsFresh pages c))
-  pub made : IsTrue old.models_content → IsMade old.content → AllLeft old new old.may_leave
+  pub made : new.models_content → IsMade old.content → AllLeft old new old.may_leave
   pub untouched : answer ≡ status.NoMemory → AllLeft old new old.may_leave
   -- area Copy stays, and area Log but for the byte of its first gate
   pub keeps : ChangesBy KeepsCopyAndLog old new
@@ -41,22 +41,22 @@ pub record CreateDue (pages : ℕ) (old new : Facts) (answer : Status) (text : L
 -- the error line of a volume that was not opened, and why
 abbrev pub RefusedText : Facts → Facts → Status → List ℕ → Type 0
 RefusedText old new (status.Volume area) text = HasFailed old new area × (text ≡ error_line (status.Volume area))
-RefusedText old new status.NotMade text = (IsTrue old.models_content → IsUnmade old.content) × (text ≡ error_line status.NotMade)
+RefusedText old new status.NotMade text = (new.models_content → IsUnmade old.content) × (text ≡ error_line status.NotMade)
 RefusedText old new (status.Damaged area at) text =
-    (IsTrue old.models_content → IsUnmade old.content → ⊥) × (IsTrue old.models_content → IsDamage old.content area at) × (text ≡ error_line (status.Damaged area at))
-RefusedText old new (status.NeedsUndo txn) text = NeedsUndoOf (IsTrue old.models_content) old.content txn.0 × (text ≡ error_line (status.NeedsUndo txn))
+    (new.models_content → IsUnmade old.content → ⊥) × (new.models_content → IsDamage old.content area at) × (text ≡ error_line (status.Damaged area at))
+RefusedText old new (status.NeedsUndo txn) text = NeedsUndoOf new.models_content old.content txn.0 × (text ≡ error_line (status.NeedsUndo txn))
 RefusedText old new status.NoMemory text = text ≡ error_line status.NoMemory
 RefusedText old new other text = ⊥
 
 -- the opening found this many inserts
-pub record HasOpened (volume : Facts) (inserted : ℕ) : Type 0 where
+pub record HasOpened (old new : Facts) (inserted : ℕ) : Type 0 where
   pub pages : List (List Slot)
   pub next : ℕ
   pub log : LogValue
-  pub opens : Opens (IsTrue volume.models_content) volume.content MAX_LOG pages next log inserted
+  pub opens : Opens new.models_content old.content MAX_LOG pages next log inserted
 
 abbrev pub RestartText : Facts → Facts → Status → List ℕ → Type 0
-RestartText old new status.Done text = (inserted : ℕ) × HasOpened old inserted × (text ≡ restart_line inserted inserted 0)
+RestartText old new status.Done text = (inserted : ℕ) × HasOpened old new inserted × (text ≡ restart_line inserted inserted 0)
 RestartText old new other text = RefusedText old new other text
 
 -- What is due for `restart`. It writes nothing: each image since the start is one from before.

@@ -110,7 +110,7 @@ pub fn run_command<V: Volume, S: Source, K: Sink>(
     // Where nothing fails, a right script over a right volume is done, unless memory, log room or ids run out.
     ensures complete { (command : Option Commands) × Names (map string_bytes words.now) command
         × ((Rises (S.faults script.old) (S.faults script.new) → ⊥) → (Rises (K.faults out.old) (K.faults out.new) → ⊥) → ((area : Areas) → HasFailed (facts_of V.Volume volume.old) (facts_of V.Volume volume.new) area → ⊥)
-        → EndsRight command (S.left script.old) (facts_of V.Volume volume.old) result) }
+        → EndsRight command (S.left script.old) (facts_of V.Volume volume.old) (facts_of V.Volume volume.new) result) }
 
     // A script that was done was read to its end, and without the words for it nothing is read.
     ensures to_end { result ≡ Status.Done → HasScript (map string_bytes words.now) → IsReadToEnd (S.left script.old) (S.left script.new) }

@@ -93,7 +93,7 @@ impl<R: Files<File = File> + Drop> Volume for FileVolume<R> {
     ghost use Rattle.rm_outside.specs.PerArea.{of_area};
     ghost use Rattle.rm_files.specs.Tallies.{Tallies};
 
-    ghost models_content = { false };
+    ghost models_content = { λ _. ⊥ };
 
     ghost content = { λ _ _ _. 0 };
 
@@ -115,9 +115,9 @@ impl<R: Files<File = File> + Drop> Volume for FileVolume<R> {
 
     ghost only_now = { λ _ _ left. left };
 
-    ghost only_modelled = { λ _ _ left. absurd left };
+    ghost only_modelled = { λ _ _ left. left };
 
-    ghost content_may_stay = { λ _ models. Prim.cc };
+    ghost content_may_stay = { λ _ models. models };
 
     fn read(&mut self, area: Area, at: u64, into: &mut [u8]) -> Result<(), Failed>
         requires { CanReach area at (length into.old) }

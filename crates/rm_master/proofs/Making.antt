@@ -83,14 +83,14 @@ module _ {a b c d : Facts} (clears : By KeepsMaster a b) (slots : By KeepsMadeBy
         (weaker makes.time (λ x comes. made_or_not pages comes.0 x comes.2 (ready comes.0 comes.1)))
 
 -- all is synced after the first slot is written, so each image is ready
-pub ready_images : {models : Type 0} {b c : Facts} (pages : ℕ) → Writing KeepsMadeByte KeepsMadeByte b c
-    → (models → IsCleared pages b.content) → (models → HasSlot (c.content Master) (fresh_fields pages))
-    → ((x : Image) → c.may_leave x → x ≡ c.content) → ((x : Image) → c.may_leave x → models) → (x : Image) → c.may_leave x
+pub ready_images : {b c : Facts} (pages : ℕ) → Writing KeepsMadeByte KeepsMadeByte b c
+    → (b.models_content → IsCleared pages b.content) → (c.models_content → HasSlot (c.content Master) (fresh_fields pages))
+    → ((x : Image) → c.may_leave x → x ≡ c.content) → ((x : Image) → c.may_leave x → c.models_content) → (x : Image) → c.may_leave x
     → IsReady pages x
 ready_images pages slots cleared slot synced modelled x now =
     let P : Image → Type 0 = λ image. IsReady pages image in
     let models = modelled x now in
-    subst P (sym (synced x now)) (record { slot = slot models; cleared = cleared_on pages _ _ slots.content.others (cleared models) })
+    subst P (sym (synced x now)) (record { slot = slot models; cleared = cleared_on pages _ _ slots.content.others (cleared (slots.modelled models)) })
 
 -- where all is synced and the volume is not made, no image is
 pub unmade_images : {models : Type 0} (content : Image) (may_leave : Image → Type 0) → ((x : Image) → may_leave x → x ≡ content)

@@ -100,6 +100,7 @@ module _ (slot : ℕ) (fields next : Fields) (small : slot < 2) (rules : IsField
   -- after the slot is written
   pub slot_written : Writing (KeepsOthers Master) (GoesTo fields next) a b
   slot_written = record {
+    modelled = first.modelled;
     content = torn_others _ _ _ _ first.content;
     crash = record { each = λ c now. goes_first c (first.crash.each c now) };
     time = weaker first.time goes_first;
@@ -123,6 +124,7 @@ module _ (slot : ℕ) (fields next : Fields) (small : slot < 2) (rules : IsField
 
     pub parity_written : Writing (KeepsOthers Master) (GoesTo fields next) a e
     parity_written = record {
+      modelled = λ models. first.modelled (second.modelled models);
       content = record { each = λ other ne. second.content.areas other ne ∙ first.content.areas other ne };
       crash = record { each = λ c now. goes_second c (second.crash.each c now) };
       time = joined slot_written.time (weaker second.time goes_second);

@@ -1,5 +1,5 @@
 -- What each error of a call on a volume's master says.
-use Rattle.std.specs.Prelude.{◌≡◌, ℕ, IsTrue}
+use Rattle.std.specs.Prelude.{◌≡◌, ℕ}
 use Rattle.rm_types.specs.declared.areas.Area.TheVariants.{Master}
 use Rattle.rm_types.specs.declared.faults.Fault.{Fault}
 use Rattle.rm_types.specs.declared.faults.Fault.TheVariants as fault
@@ -16,17 +16,17 @@ use Rattle.rm_master.specs.Slots.{slot_at, HasNoFields, IsDamagedAt, IsMade, IsU
 abbrev pub ExplainsSlot : {V : Type 0} → Ghosts V → V → V → ℕ → Fault → Type 0
 ExplainsSlot g old new slot (fault.Volume area) = (area ≡ Master) × Rises (g.faults old area) (g.faults new area)
 ExplainsSlot g old new slot (fault.Damaged area at) =
-    (area ≡ Master) × (at ≡ slot_at slot) × (IsTrue g.models_content → HasNoFields (g.content old Master) at)
+    (area ≡ Master) × (at ≡ slot_at slot) × (g.models_content new → HasNoFields (g.content old Master) at)
 
 -- of a read of the master
 abbrev pub ExplainsRead : {V : Type 0} → Ghosts V → V → V → MasterFault → Type 0
-ExplainsRead g old new read.NotMade = IsTrue g.models_content → IsUnmade (g.content old)
+ExplainsRead g old new read.NotMade = g.models_content new → IsUnmade (g.content old)
 ExplainsRead g old new (read.Fault (fault.Volume area)) = (area ≡ Master) × Rises (g.faults old area) (g.faults new area)
 ExplainsRead g old new (read.Fault (fault.Damaged area at)) =
-    (area ≡ Master) × (IsTrue g.models_content → IsDamagedAt (g.content old Master) at)
+    (area ≡ Master) × (g.models_content new → IsDamagedAt (g.content old Master) at)
 
 -- of making a volume: one that is made already was only synced and read, and all of it was synced
 abbrev pub ExplainsCreate : {V : Type 0} → Ghosts V → V → V → CreateFault → Type 0
 ExplainsCreate g old new create.AlreadyMade =
-    (IsTrue g.models_content → IsMade (g.content old)) × IsAllSynced g new × OnlyReads g Master old new
+    (g.models_content new → IsMade (g.content old)) × IsAllSynced g new × OnlyReads g Master old new
 ExplainsCreate g old new (create.Fault fault) = IsVolumeFault (g.faults old) (g.faults new) fault

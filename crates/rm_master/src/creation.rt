@@ -3,7 +3,7 @@
 //! The made byte is the last thing written, after a sync of all else: until then each image is one
 //! of a volume that is not made, and from then on each is a volume without rows.
 
-ghost use Rattle.std.specs.Prelude.{◌≡◌, ℕ, ◌+◌, ◌*◌, ◌<◌, ◌≤◌, ◌⊎◌, IsTrue, length, get_or, OnOk, [], ◌∷◌};
+ghost use Rattle.std.specs.Prelude.{◌≡◌, ℕ, ◌+◌, ◌*◌, ◌<◌, ◌≤◌, ◌⊎◌, length, get_or, OnOk, [], ◌∷◌};
 ghost use Rattle.rm_types.specs.declared.areas.Area.{Area};
 ghost use Rattle.rm_types.specs.Formats.{blocks_of};
 ghost use Rattle.rm_outside.specs.Areas.{last_block};
@@ -36,7 +36,7 @@ fn zero_block() -> [u8; BLOCK_SIZE]
 /// Writes zeros to one block.
 fn clear_block<V: Volume>(volume: &mut V, area: Area, block: u32) -> Result<(), Fault>
     requires { block ≤ last_block area }
-    ensures zeros { OnOk result (IsTrue V.models_content → IsZeroBelow (V.content volume.old area) (BLOCK_SIZE * block)
+    ensures zeros { OnOk result (V.models_content volume.new → IsZeroBelow (V.content volume.old area) (BLOCK_SIZE * block)
         → IsZeroBelow (V.content volume.new area) (BLOCK_SIZE * (block + 1))) }
     ensures writes { Writes V.Volume (KeepsOthers area) volume.old volume.new }
     ensures cause { FailsIn V.Volume area volume.old volume.new result }
@@ -48,7 +48,7 @@ fn clear_block<V: Volume>(volume: &mut V, area: Area, block: u32) -> Result<(), 
 /// Writes zeros to this many blocks.
 fn clear_blocks<V: Volume>(volume: &mut V, area: Area, count: u32) -> Result<(), Fault>
     requires { count ≤ last_block area + 1 }
-    ensures zeros { OnOk result (IsTrue V.models_content → IsZeroBelow (V.content volume.new area) (BLOCK_SIZE * count)) }
+    ensures zeros { OnOk result (V.models_content volume.new → IsZeroBelow (V.content volume.new area) (BLOCK_SIZE * count)) }
     ensures writes { Writes V.Volume (KeepsOthers area) volume.old volume.new }
     ensures cause { FailsIn V.Volume area volume.old volume.new result }
 {
@@ -69,7 +69,7 @@ fn space_block_count(pages: u32) -> u32
 /// Writes a closed gate and the blocks of zeros.
 fn write_clear<V: Volume>(volume: &mut V, pages: u32) -> Result<(), Fault>
     requires { pages ≤ MAX_PAGES }
-    ensures cleared { OnOk result (IsTrue V.models_content → IsCleared pages (V.content volume.new)) }
+    ensures cleared { OnOk result (V.models_content volume.new → IsCleared pages (V.content volume.new)) }
     ensures writes { Writes V.Volume KeepsMaster volume.old volume.new }
     ensures cause { Fails V.Volume volume.old volume.new result }
 {
@@ -82,7 +82,7 @@ fn write_clear<V: Volume>(volume: &mut V, pages: u32) -> Result<(), Fault>
 fn clear<V: Volume>(volume: &mut V, pages: u32) -> Result<(), Fault>
     requires pages { pages ≤ MAX_PAGES }
     requires synced { IsAllSynced V.Volume volume.old }
-    ensures cleared { OnOk result (IsTrue V.models_content → IsCleared pages (V.content volume.new)) }
+    ensures cleared { OnOk result (V.models_content volume.new → IsCleared pages (V.content volume.new)) }
     ensures synced { OnOk result (IsAllSynced V.Volume volume.new) }
     ensures writes { Writes V.Volume KeepsMaster volume.old volume.new }
     ensures cause { Fails V.Volume volume.old volume.new result }
@@ -95,7 +95,7 @@ fn clear<V: Volume>(volume: &mut V, pages: u32) -> Result<(), Fault>
 fn write_first_slot<V: Volume>(volume: &mut V, pages: u32) -> Result<(), Fault>
     requires pages { (1 ≤ pages) × (pages ≤ MAX_PAGES) }
     requires synced { IsAllSynced V.Volume volume.old }
-    ensures slot { OnOk result (IsTrue V.models_content → HasSlot (V.content volume.new Area.Master) (fresh_fields pages)) }
+    ensures slot { OnOk result (V.models_content volume.new → HasSlot (V.content volume.new Area.Master) (fresh_fields pages)) }
     ensures synced { OnOk result (IsAllSynced V.Volume volume.new) }
     ensures writes { Writes V.Volume KeepsMadeByte volume.old volume.new }
     ensures cause { FailsIn V.Volume Area.Master volume.old volume.new result }
@@ -109,7 +109,7 @@ fn write_first_slot<V: Volume>(volume: &mut V, pages: u32) -> Result<(), Fault>
 /// Writes the made byte, and makes it durable.
 fn write_made<V: Volume>(volume: &mut V) -> Result<(), Fault>
     requires { IsAllSynced V.Volume volume.old }
-    ensures made { OnOk result (IsTrue V.models_content → IsMade (V.content volume.new)) }
+    ensures made { OnOk result (V.models_content volume.new → IsMade (V.content volume.new)) }
     ensures synced { OnOk result (IsAllSynced V.Volume volume.new) }
     ensures writes { Writes V.Volume (Torn Area.Master MADE_AT (MADE ∷ [])) volume.old volume.new }
     ensures cause { FailsIn V.Volume Area.Master volume.old volume.new result }
@@ -122,8 +122,8 @@ fn write_made<V: Volume>(volume: &mut V) -> Result<(), Fault>
 pub fn make<V: Volume>(volume: &mut V, pages: u32) -> Result<(), Fault>
     requires pages { (1 ≤ pages) × (pages ≤ MAX_PAGES) }
     requires synced { IsAllSynced V.Volume volume.old }
-    requires unmade { IsTrue V.models_content → IsUnmade (V.content volume.old) }
-    ensures fresh { OnOk result (IsTrue V.models_content → IsFresh pages (V.content volume.new)) }
+    requires unmade { V.models_content volume.old → IsUnmade (V.content volume.old) }
+    ensures fresh { OnOk result (V.models_content volume.new → IsFresh pages (V.content volume.new)) }
     ensures synced { OnOk result (IsAllSynced V.Volume volume.new) }
     ensures any_moment { AtEachMoment V.Volume volume.old volume.new (λ c. IsUnmade c ⊎ IsFresh pages c) }
     ensures writes { Writes V.Volume KeepsCopyAndLog volume.old volume.new }

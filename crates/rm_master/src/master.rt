@@ -39,7 +39,7 @@ impl Master {
     /// [`rm_types::Fault::Volume`] where the area Master failed.
     pub fn read<V: Volume>(volume: &mut V) -> Result<Master, MasterFault>
         ensures fields { IfOk result (λ master. IsFields master.fields) }
-        ensures stands { IfOk result (λ master. IsTrue V.models_content → Stands master.slot master.fields (V.content volume.old master_area)) }
+        ensures stands { IfOk result (λ master. V.models_content volume.new → Stands master.slot master.fields (V.content volume.old master_area)) }
         ensures reads { OnlyReads V.Volume master_area volume.old volume.new }
         ensures cause { IfErr result (ExplainsRead V.Volume volume.old volume.new) }
     {
@@ -65,9 +65,9 @@ impl Master {
     pub fn create<V: Volume>(volume: &mut V, pages: u32) -> Result<(), CreateFault>
         requires { (1 ≤ pages) × (pages ≤ MAX_PAGES) }
         ensures fresh { OnOk result ((c : Image) → V.may_leave volume.new c → IsFresh pages c) }
-        ensures not_made { OnOk result (IsTrue V.models_content → IsUnmade (V.content volume.old)) }
+        ensures not_made { OnOk result (V.models_content volume.new → IsUnmade (V.content volume.old)) }
         ensures synced { OnOk result (IsAllSynced V.Volume volume.new) }
-        ensures made { IsTrue V.models_content → IsMade (V.content volume.old) → OnlyReads V.Volume master_area volume.old volume.new }
+        ensures made { V.models_content volume.new → IsMade (V.content volume.old) → OnlyReads V.Volume master_area volume.old volume.new }
         ensures any_moment { AtEachMoment V.Volume volume.old volume.new (λ c. V.may_leave volume.old c ⊎ (IsUnmade c ⊎ IsFresh pages c)) }
         ensures writes { Writes V.Volume KeepsCopyAndLog volume.old volume.new }
         ensures cause { IfErr result (ExplainsCreate V.Volume volume.old volume.new) }

@@ -39,7 +39,7 @@ fn fields_of(bytes: &[u8; SLOT_BYTES]) -> Option<Fields>
 pub fn read_slot<V: Volume>(volume: &mut V, slot: u8) -> Result<Fields, Fault>
     requires { slot < 2 }
     ensures rules { IfOk result IsFields }
-    ensures shows { IfOk result (λ fields. HasBytes V.Volume volume.old Area.Master (slot_at slot) (slot_bytes fields)) }
+    ensures shows { IfOk result (λ fields. HasBytes V.Volume volume.old volume.new Area.Master (slot_at slot) (slot_bytes fields)) }
     ensures reads { OnlyReads V.Volume Area.Master volume.old volume.new }
     ensures cause { IfErr result (ExplainsSlot V.Volume volume.old volume.new slot) }
 {

@@ -6,10 +6,10 @@ use Rattle.rm_outside.specs.Areas.{is_blocked}
 use Rattle.rm_outside.specs.Images.{Bytes, Image, Torn}
 use Rattle.rm_memory.specs.declared.crash.TheConstants.{FILLING}
 use Rattle.rm_outside.specs.Areas.{is_same}
-use Rattle.rm_memory.specs.Puts.{put_bytes, put}
-use Rattle.rm_memory.specs.History.{Event, Write, Sync, content, may_leave}
+use Rattle.rm_outside.specs.Puts.{put_bytes, put}
+use Rattle.rm_outside.specs.History.{Event, Write, Sync, content, may_leave}
 use Rattle.rm_memory.specs.Crashes.{with_area, unsynced, applies, fills, after_write, left}
-use Rattle.rm_memory.specs.PutLaws.{same-refl, put-other, torn_same, torn_put, torn_filled}
+use Rattle.rm_outside.specs.PutLaws.{same-refl, put-other, torn_same, torn_put, torn_filled}
 
 -- an area of its own, or another
 same_cases : (a b : Area) → (is_same a b ≡ true) ⊎ (is_same a b ≡ false)

@@ -1,4 +1,3 @@
-pub mod HistoryLaws
 pub mod CrashLaws
 pub mod NoteLemmas
 pub mod ReplayLemmas

@@ -8,7 +8,7 @@ use Rattle.rm_memory.specs.declared.notes.Note.{Note}
 use Rattle.rm_memory.specs.declared.notes.Note.TheVariants.{Wrote, Synced}
 use Rattle.rm_outside.specs.Areas.{is_same}
 use Rattle.rm_outside.specs.Images.{Image}
-use Rattle.rm_memory.specs.History.{Event, Write, Sync, content}
+use Rattle.rm_outside.specs.History.{Event, Write, Sync, content}
 use Rattle.rm_memory.specs.Notes.{events_onto, history, total, synced_in}
 
 events_wrote : (done : List Event) (notes : List Note) (put : Put) (old new : List ℕ) → total notes ≡ length old → put.len ≡ length new

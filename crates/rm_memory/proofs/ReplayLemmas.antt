@@ -7,7 +7,7 @@ use Rattle.rm_outside.specs.Images.{Image}
 use Rattle.rm_memory.specs.declared.notes.Put.{Put}
 use Rattle.rm_memory.specs.declared.notes.Note.{Note}
 use Rattle.rm_memory.specs.declared.notes.Note.TheVariants.{Wrote, Synced}
-use Rattle.rm_memory.specs.History.{Event, Write, Sync}
+use Rattle.rm_outside.specs.History.{Event, Write, Sync}
 use Rattle.rm_memory.specs.Crashes.{none, with_area, unsynced, applies, fills, after_write, left}
 use Rattle.rm_memory.specs.Notes.{events_onto, history, total, synced_in}
 use Rattle.rm_memory.proofs.NoteLemmas.{total-append, total_wrote, total_synced, noted_history, history-synced}

@@ -6,10 +6,10 @@ use Rattle.rm_outside.specs.Images.{Image, Torn, Shows}
 use Rattle.rm_outside.specs.Moments.{AddsNone, Follows, IsDurable, Elapses}
 use Rattle.rm_outside.specs.Faults.{last_count}
 use Rattle.rm_outside.specs.Counts.{CountsAtMost}
-use Rattle.rm_memory.specs.PutLaws.{torn_same}
-use Rattle.rm_memory.specs.Laws.{torn_by}
-use Rattle.rm_memory.specs.History.{Event, Write, Sync, content, may_leave, left_since}
-use Rattle.rm_memory.proofs.HistoryLaws.{shows_written, write_follows, lost_follows, content-sync, sync_durable, sync_adds_none, elapses, stands}
+use Rattle.rm_outside.specs.PutLaws.{torn_same}
+use Rattle.rm_outside.specs.Laws.{torn_by}
+use Rattle.rm_outside.specs.History.{Event, Write, Sync, content, may_leave, left_since}
+use Rattle.rm_outside.proofs.HistoryLaws.{shows_written, write_follows, lost_follows, content-sync, sync_durable, sync_adds_none, elapses, stands}
 
 -- the facts of a write
 pub record Written (area : Area) (at : ℕ) (bytes : List ℕ) (base_old : Image) (old : List Event) (base_new : Image) (new : List Event) : Type 0 where

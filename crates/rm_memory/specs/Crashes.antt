@@ -5,8 +5,8 @@ use Rattle.rm_outside.specs.Areas.{is_blocked}
 use Rattle.rm_outside.specs.Images.{Image}
 use Rattle.rm_memory.specs.declared.crash.TheConstants.{FILLING, CHOICES}
 use Rattle.rm_outside.specs.Areas.{is_same}
-use Rattle.rm_memory.specs.Puts.{put}
-use Rattle.rm_memory.specs.History.{Event, Write, Sync}
+use Rattle.rm_outside.specs.Puts.{put}
+use Rattle.rm_outside.specs.History.{Event, Write, Sync}
 
 -- no area
 abbrev pub none : Area → Bool

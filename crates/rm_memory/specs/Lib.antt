@@ -1,7 +1,4 @@
-pub mod Puts
-pub mod PutLaws
 pub mod Areas
-pub mod History
 pub mod Crashes
 pub mod Notes
 pub mod Mediums
@@ -9,4 +6,3 @@ pub mod Calls
 pub mod Plans
 pub mod Streams
 pub mod Volumes
-pub mod Laws

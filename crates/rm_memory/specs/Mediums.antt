@@ -5,7 +5,7 @@ use Rattle.rm_outside.specs.Images.{Image}
 use Rattle.rm_memory.specs.declared.medium.Medium.{Medium}
 use Rattle.rm_outside.specs.PerArea.{of_area}
 use Rattle.rm_memory.specs.Areas.{image_of}
-use Rattle.rm_memory.specs.History.{Event, content}
+use Rattle.rm_outside.specs.History.{Event, content}
 use Rattle.rm_memory.specs.Notes.{history}
 
 -- what was done to it, newest first

@@ -3,7 +3,7 @@ use Rattle.std.specs.Prelude.{ℕ, ◌+◌, Bool, List, [], ◌∷◌, take, dro
 use Rattle.rm_types.specs.declared.areas.Area.{Area}
 use Rattle.rm_memory.specs.declared.notes.Note.{Note}
 use Rattle.rm_memory.specs.declared.notes.Note.TheVariants.{Wrote, Synced}
-use Rattle.rm_memory.specs.History.{Event, Write, Sync}
+use Rattle.rm_outside.specs.History.{Event, Write, Sync}
 use Rattle.rm_memory.specs.Crashes.{none, with_area}
 
 -- The events of these notes, put before others. The bytes of the writes stand one after another.

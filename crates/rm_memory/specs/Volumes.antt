@@ -6,7 +6,7 @@ use Rattle.rm_outside.specs.Counts.{raised}
 use Rattle.rm_memory.specs.declared.volume.MemVolume.{MemVolume}
 use Rattle.rm_outside.specs.Areas.{is_same}
 use Rattle.rm_outside.specs.PerArea.{of_area}
-use Rattle.rm_memory.specs.History.{Event, content, may_leave}
+use Rattle.rm_outside.specs.History.{Event, content, may_leave}
 use Rattle.rm_memory.specs.Crashes.{none, left}
 use Rattle.rm_memory.specs.Mediums.{events, base_image, HasRoom, HasRoomForSync}
 use Rattle.rm_memory.specs.Plans.{lists_call}

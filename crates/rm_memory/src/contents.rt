@@ -3,7 +3,7 @@
 ghost use Rattle.std.specs.Prelude.{◌≡◌, ℕ, ◌+◌, ◌<◌, ◌≤◌, ◌^◌, length, slice_index, vec_len, vec_capacity, OnOk, OnErr, IfOk};
 ghost use Rattle.rm_types.specs.declared.areas.Area.{Area};
 ghost use Rattle.rm_outside.specs.Images.{Shows};
-ghost use Rattle.rm_memory.specs.Puts.{put_bytes, put};
+ghost use Rattle.rm_outside.specs.Puts.{put_bytes, put};
 ghost use Rattle.rm_outside.specs.PerArea.{of_area};
 ghost use Rattle.rm_memory.specs.Areas.{image_of};
 

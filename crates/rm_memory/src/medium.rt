@@ -4,7 +4,7 @@
 ghost use Rattle.std.specs.Prelude.{◌≡◌, ◌+◌, ◌≤◌, ◌^◌, ◌∷◌, [], length, vec_len, IfOk, OnOk, OnErr, IsOk};
 ghost use Rattle.rm_outside.specs.Images.{Shows};
 ghost use Rattle.rm_memory.specs.Areas.{image_of};
-ghost use Rattle.rm_memory.specs.History.{content, Write, Sync};
+ghost use Rattle.rm_outside.specs.History.{content, Write, Sync};
 ghost use Rattle.rm_memory.specs.Crashes.{none, left};
 ghost use Rattle.rm_memory.specs.Notes.{history, total};
 

@@ -7,7 +7,7 @@ ghost use Rattle.rm_outside.specs.Images.{Image, Shows, Torn};
 ghost use Rattle.rm_outside.specs.Moments.{AddsNone, Follows, IsDurable, Elapses};
 ghost use Rattle.rm_outside.specs.Faults.{HasCause};
 ghost use Rattle.rm_outside.specs.Counts.{CountsBlock, CountsBytes, CountsAtMost, raised};
-ghost use Rattle.rm_memory.specs.History.{Write, Sync, content, may_leave, left_since};
+ghost use Rattle.rm_outside.specs.History.{Write, Sync, content, may_leave, left_since};
 ghost use Rattle.rm_memory.specs.Volumes.{events_of, base_of, content_of, may_leave_of, left_by, faults_of, is_listed, has_stopped, stops_in, writes_of, is_due, is_due_write, HasRoomFor, HasRoomToSync, HasRoomToList, Nears, KeepsWrites, CountsWrite, CountsFault, KeepsImages, KeepsOthers, IsFresh};
 ghost use Rattle.rm_memory.specs.Mediums.{events, base_image};
 
@@ -116,9 +116,9 @@ impl MemVolume {
 }
 
 impl Volume for MemVolume {
-    ghost use Rattle.rm_memory.specs.Laws as laws;
+    ghost use Rattle.rm_outside.specs.Laws as laws;
 
-    ghost models_content = { true };
+    ghost models_content = { λ _. Unit {0} };
 
     ghost content = { content_of };
 
@@ -140,7 +140,7 @@ impl Volume for MemVolume {
 
     ghost only_now = { λ volume c left. laws.only_now (base_of volume) (events_of volume) c left };
 
-    ghost only_modelled = { λ _ _ _. laws.models };
+    ghost only_modelled = { λ _ _ _. tt };
 
     ghost content_may_stay = { λ volume _. laws.content_may_stay (base_of volume) (events_of volume) };
 

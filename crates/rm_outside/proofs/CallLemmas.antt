@@ -68,6 +68,7 @@ module _ {data_read log_read : Bool} where
   -- no call
   pub reads_none : {a : Facts} → ((c : Image) → a.left_since a.moment c → a.may_leave c) → Reading data_read log_read a a
   reads_none only_now = record {
+    modelled = λ models. models;
     content = refl;
     crash = record { each = λ c now. now };
     time = started _ _ _ only_now;
@@ -75,11 +76,13 @@ module _ {data_read log_read : Bool} where
   }
 
   -- one call
-  pub reads_once : {a b : Facts} → ((c : Image) → a.left_since a.moment c → a.may_leave c) → b.content ≡ a.content
+  pub reads_once : {a b : Facts} → ((c : Image) → a.left_since a.moment c → a.may_leave c)
+      → (b.models_content → a.models_content) → b.content ≡ a.content
       → AddsNone a.may_leave b.may_leave
       → Elapses a.moment b.moment a.left_since b.left_since b.may_leave → Counts data_read log_read a b
       → Reading data_read log_read a b
-  reads_once only_now same added time counts = record {
+  reads_once only_now modelled same added time counts = record {
+    modelled = modelled;
     content = same;
     crash = added;
     time = goes_on (started _ _ _ only_now) time added.each;
@@ -90,6 +93,7 @@ module _ {data_read log_read : Bool} where
   pub reads_then : {a b c : Facts} → Reading data_read log_read a b → Reading data_read log_read b c
       → Reading data_read log_read a c
   reads_then one other = record {
+    modelled = λ models. one.modelled (other.modelled models);
     content = other.content ∙ one.content;
     crash = record { each = λ c now. one.crash.each c (other.crash.each c now) };
     time = joined one.time (weaker other.time one.crash.each);
@@ -98,7 +102,7 @@ module _ {data_read log_read : Bool} where
 
   -- where nothing is counted, anything may be
   pub reads_as : {a b : Facts} → Reading false false a b → Reading data_read log_read a b
-  reads_as syncs = record { content = syncs.content; crash = syncs.crash; time = syncs.time; counts = counts_as syncs.counts }
+  reads_as syncs = record { modelled = syncs.modelled; content = syncs.content; crash = syncs.crash; time = syncs.time; counts = counts_as syncs.counts }
 
 -- what is all synced stays so
 pub synced_on : {data_read log_read : Bool} {a b : Facts} → Reading data_read log_read a b → LeavesContent a → LeavesContent b
@@ -114,9 +118,11 @@ comes_then follows trans e (d, left, last) = let before = follows.each d left in
 module _ {change step : Image → Image → Type 0} where
   -- one call, where the step may also change nothing
   pub writes_once : {a b : Facts} → ((c : Image) → a.left_since a.moment c → a.may_leave c) → ((c : Image) → step c c)
+      → (b.models_content → a.models_content)
       → change a.content b.content → Follows step a.may_leave b.may_leave
       → Elapses a.moment b.moment a.left_since b.left_since b.may_leave → Counts false false a b → Writing change step a b
-  writes_once only_now still content follows time counts = record {
+  writes_once only_now still modelled content follows time counts = record {
+    modelled = modelled;
     content = content;
     crash = follows;
     time = goes_on (started _ _ _ (λ c left. (c, only_now c left, still c))) time follows.each;
@@ -126,6 +132,7 @@ module _ {change step : Image → Image → Type 0} where
   -- a write, and then syncs
   pub writes_synced : {a b c : Facts} → Writing change step a b → Reading false false b c → Writing change step a c
   writes_synced {a} written syncs = record {
+    modelled = λ models. written.modelled (syncs.modelled models);
     content = rw syncs.content written.content;
     crash = record { each = λ c now. written.crash.each c (syncs.crash.each c now) };
     time = joined written.time (weaker syncs.time written.crash.each);
@@ -136,6 +143,7 @@ module _ {change step : Image → Image → Type 0} where
   pub synced_writes : {a b c : Facts} → Reading false false a b → Writing change step b c → ((c : Image) → step c c)
       → Writing change step a c
   synced_writes syncs written still = record {
+    modelled = λ models. syncs.modelled (written.modelled models);
     content = rw (← syncs.content) written.content;
     crash = record { each = λ c now. let d = written.crash.each c now in (d.0, syncs.crash.each d.0 d.1, d.2) };
     time = joined (weaker syncs.time (λ c left. (c, left, still c))) (weaker written.time (λ c d. (d.0, syncs.crash.each d.0 d.1, d.2)));
@@ -147,6 +155,7 @@ module _ {change step : Image → Image → Type 0} where
       → ((c d : Image) → change c d → other_change c d)
       → ((c d : Image) → step c d → other_step c d) → Writing other_change other_step a b
   writes_weaker written changes holds = record {
+    modelled = written.modelled;
     content = changes _ _ written.content;
     crash = record { each = λ c now. let d = written.crash.each c now in (d.0, d.1, holds _ _ d.2) };
     time = weaker written.time (λ c d. (d.0, d.1, holds _ _ d.2));
@@ -158,6 +167,7 @@ module _ {step : Image → Image → Type 0} where
   pub writes_none : {a : Facts} → ((c : Image) → a.left_since a.moment c → a.may_leave c) → ((c : Image) → step c c)
       → Writing step step a a
   writes_none {a} only_now still = record {
+    modelled = λ models. models;
     content = still a.content;
     crash = record { each = λ c now. (c, now, still c) };
     time = started _ _ _ (λ c left. (c, only_now c left, still c));
@@ -167,6 +177,7 @@ module _ {step : Image → Image → Type 0} where
   -- syncs alone
   pub syncs_write : {a b : Facts} → Reading false false a b → ((c : Image) → step c c) → Writing step step a b
   syncs_write {a} syncs still = record {
+    modelled = syncs.modelled;
     content = rw syncs.content (still a.content);
     crash = record { each = λ c now. (c, syncs.crash.each c now, still c) };
     time = weaker syncs.time (λ c left. (c, left, still c));
@@ -177,6 +188,7 @@ module _ {step : Image → Image → Type 0} where
   pub writes_then : {a b c : Facts} → Writing step step a b → Writing step step b c
       → ((c d e : Image) → step c d → step d e → step c e) → Writing step step a c
   writes_then one other trans = record {
+    modelled = λ models. one.modelled (other.modelled models);
     content = trans _ _ _ one.content other.content;
     crash = record { each = λ c now. comes_then one.crash trans c (other.crash.each c now) };
     time = joined one.time (weaker other.time (comes_then one.crash trans));

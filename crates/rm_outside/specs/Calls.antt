@@ -1,6 +1,6 @@
 -- What calls do to a volume, as relations between the volume before and after. A contract cites the dictionary of its
 -- bound, as `OnlyReads V.Volume Area.Log volume.old volume.new`.
-use Rattle.std.specs.Prelude.{◌≡◌, ℕ, ◌≤◌, Bool, true, false, List, IsTrue, Result, IfErr}
+use Rattle.std.specs.Prelude.{◌≡◌, ℕ, ◌≤◌, Bool, true, false, List, Result, IfErr}
 use Rattle.rm_types.specs.declared.areas.Area.{Area}
 use Rattle.rm_types.specs.declared.areas.Area.TheVariants.{Log, Data}
 use Rattle.rm_types.specs.declared.faults.Fault.{Fault}
@@ -24,7 +24,7 @@ pub record Facts : Type 1 where
   pub faults : Area → ℕ
   pub data_reads : ℕ
   pub log_reads : ℕ
-  pub models_content : Bool
+  pub models_content : Type 0
 
 abbrev pub facts_of : {V : Type 0} → Ghosts V → V → Facts
 facts_of g volume = record {
@@ -35,12 +35,12 @@ facts_of g volume = record {
   faults = g.faults volume;
   data_reads = g.data_reads volume;
   log_reads = g.log_reads volume;
-  models_content = g.models_content;
+  models_content = g.models_content volume;
 }
 
--- the bytes stand at this offset of the area, if the volume models its content
-abbrev pub HasBytes : {V : Type 0} → Ghosts V → V → Area → ℕ → List ℕ → Type 0
-HasBytes g volume area at bytes = IsTrue g.models_content → Shows (g.content volume area) at bytes
+-- The bytes stand at this offset of the area in a volume, if it models its content to this later moment.
+abbrev pub HasBytes : {V : Type 0} → Ghosts V → V → V → Area → ℕ → List ℕ → Type 0
+HasBytes g volume later area at bytes = g.models_content later → Shows (g.content volume area) at bytes
 
 -- a crash now leaves the area as it is read
 abbrev pub IsSynced : {V : Type 0} → Ghosts V → Area → V → Type 0
@@ -75,6 +75,7 @@ pub record Counts (data_read log_read : Bool) (old new : Facts) : Type 0 where
 
 -- What a read gives stays, and no image that a crash may leave is added.
 pub record Reading (data_read log_read : Bool) (old new : Facts) : Type 0 where
+  pub modelled : new.models_content → old.models_content
   pub content : new.content ≡ old.content
   pub crash : AddsNone old.may_leave new.may_leave
   pub time : AllLeft old new old.may_leave
@@ -83,6 +84,7 @@ pub record Reading (data_read log_read : Bool) (old new : Facts) : Type 0 where
 -- What a read gives changes as said, and each image that a crash may leave comes by the step from one of before. Nothing
 -- is read.
 pub record Writing (change step : Image → Image → Type 0) (old new : Facts) : Type 0 where
+  pub modelled : new.models_content → old.models_content
   pub content : change old.content new.content
   pub crash : Follows step old.may_leave new.may_leave
   pub time : AllLeft old new (ComesBy step old.may_leave)

@@ -6,3 +6,7 @@ pub mod Images
 pub mod Moments
 pub mod Counts
 pub mod Calls
+pub mod Puts
+pub mod PutLaws
+pub mod History
+pub mod Laws

@@ -65,3 +65,13 @@ weaker leaves holds = record {
   each = λ c left. holds c (leaves.each c left);
   earlier = λ t c le left. ⊎_elim (λ p. inl p) (λ p. inr (holds c p)) (leaves.earlier t c le left);
 }
+
+-- what has P because of the moment from which the images come
+pub guarded : {I : Type 0} {before now : ℕ} {past since : ℕ → I → Type 0} {step : I → I → Type 0} {left P : I → Type 0} {models : Type 0}
+    → LeavesOnly before now past since (ComesBy step left) → ((c : I) → left c → models)
+    → (models → LeavesOnly before now past since P) → LeavesOnly before now past since P
+guarded comes only leaves = record {
+  later = comes.later;
+  each = λ c left. let from = comes.each c left in (leaves (only from.0 from.1)).each c left;
+  earlier = λ t c le left. ⊎_elim (λ past. inl past) (λ from. (leaves (only from.0 from.1)).earlier t c le left) (comes.earlier t c le left);
+}

@@ -20,7 +20,7 @@ pub fn read_area<V: Volume>(
     into: &mut [u8],
 ) -> Result<(), Fault>
     requires { CanReach area at (length into.old) }
-    ensures bytes { OnOk result (HasBytes V.Volume volume.old area at into.new) }
+    ensures bytes { OnOk result (HasBytes V.Volume volume.old volume.new area at into.new) }
     ensures reads { OnlyReads V.Volume area volume.old volume.new }
     ensures cause { FailsIn V.Volume area volume.old volume.new result }
 {
@@ -38,7 +38,7 @@ pub fn read_area<V: Volume>(
 /// [`Fault::Volume`] with the area, where it failed. A part of the bytes may be written then.
 pub fn write_area<V: Volume>(volume: &mut V, area: Area, at: u64, from: &[u8]) -> Result<(), Fault>
     requires { CanReach area at (length from.now) }
-    ensures bytes { OnOk result (HasBytes V.Volume volume.new area at from.now) }
+    ensures bytes { OnOk result (HasBytes V.Volume volume.new volume.new area at from.now) }
     ensures writes { Writes V.Volume (Torn area at from.now) volume.old volume.new }
     ensures cause { FailsIn V.Volume area volume.old volume.new result }
 {

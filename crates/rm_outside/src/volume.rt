@@ -12,10 +12,10 @@ pub struct Failed;
 ///
 /// The areas Data, Space and Copy are read and written in whole blocks of 4,096 bytes; every range
 /// ends at 2^49 at most (`CanReach`). A volume that models its content also models which images a
-/// crash may leave, now and at each moment since an earlier one; of one that does not, as of real
-/// files, only the clauses on faults and counts say something.
+/// crash may leave, now and at each moment since an earlier one; of one that does not, only the
+/// clauses on faults and counts say something.
 pub trait Volume: Drop {
-    ghost use Rattle.std.specs.Prelude.{◌≡◌, ℕ, ◌≤◌, Bool, IsTrue, List, length, OnOk, OnErr};
+    ghost use Rattle.std.specs.Prelude.{◌≡◌, ℕ, ◌≤◌, List, length, OnOk, OnErr};
     ghost use Rattle.rm_types.specs.declared.areas.Area.{Area};
     ghost use Rattle.rm_outside.specs.Faults.{HasCause};
     ghost use Rattle.rm_outside.specs.Areas.{CanReach};
@@ -23,8 +23,8 @@ pub trait Volume: Drop {
     ghost use Rattle.rm_outside.specs.Moments.{AddsNone, Follows, IsDurable, Elapses};
     ghost use Rattle.rm_outside.specs.Counts.{CountsBlock, CountsBytes, CountsAtMost};
 
-    /// Whether volumes of this type model their content.
-    ghost models_content: { Bool };
+    /// It models its content: each answer so far was the one that the content gives.
+    ghost models_content: { Self → Type 0 };
 
     /// The image that a read gives.
     ghost content: { Self → Image };
@@ -53,7 +53,8 @@ pub trait Volume: Drop {
     /// Fills `into` with the bytes at `at`.
     fn read(&mut self, area: Area, at: u64, into: &mut [u8]) -> Result<(), Failed>
         requires { CanReach area at (length into.old) }
-        ensures bytes { OnOk result (IsTrue models_content → Shows (content self.old area) at into.new) }
+        ensures bytes { OnOk result (models_content self.new → Shows (content self.old area) at into.new) }
+        ensures modelled { models_content self.new → models_content self.old }
         ensures content { content self.new ≡ content self.old }
         ensures crash { AddsNone (may_leave self.old) (may_leave self.new) }
         ensures time { Elapses (moment self.old) (moment self.new) (left_since self.old) (left_since self.new) (may_leave self.new) }
@@ -68,7 +69,8 @@ pub trait Volume: Drop {
     /// that fails may have put a part of them too.
     fn write(&mut self, area: Area, at: u64, from: &[u8]) -> Result<(), Failed>
         requires { CanReach area at (length from.now) }
-        ensures written { OnOk result (IsTrue models_content → Shows (content self.new area) at from.now) }
+        ensures written { OnOk result (models_content self.new → Shows (content self.new area) at from.now) }
+        ensures modelled { models_content self.new → models_content self.old }
         ensures content { Torn area at from.now (content self.old) (content self.new) }
         ensures crash { Follows (Torn area at from.now) (may_leave self.old) (may_leave self.new) }
         ensures time { Elapses (moment self.old) (moment self.new) (left_since self.old) (left_since self.new) (may_leave self.new) }
@@ -81,6 +83,7 @@ pub trait Volume: Drop {
     /// Makes what was written to the area durable. Where it fails, nothing is durable for certain.
     fn sync(&mut self, area: Area) -> Result<(), Failed>
         ensures durable { OnOk result (IsDurable area (content self.old) (may_leave self.new)) }
+        ensures modelled { models_content self.new → models_content self.old }
         ensures content { content self.new ≡ content self.old }
         ensures crash { AddsNone (may_leave self.old) (may_leave self.new) }
         ensures time { Elapses (moment self.old) (moment self.new) (left_since self.old) (left_since self.new) (may_leave self.new) }
@@ -97,16 +100,16 @@ pub trait Volume: Drop {
     ghost only_now: { (volume : Self) (c : Image) → left_since volume (moment volume) c → may_leave volume c };
 
     /// An image is left only where the volume models its content.
-    ghost only_modelled: { (volume : Self) (c : Image) → may_leave volume c → IsTrue models_content };
+    ghost only_modelled: { (volume : Self) (c : Image) → may_leave volume c → models_content volume };
 
     /// What a read gives is one of the images.
-    ghost content_may_stay: { (volume : Self) → IsTrue models_content → may_leave volume (content volume) };
+    ghost content_may_stay: { (volume : Self) → models_content volume → may_leave volume (content volume) };
 }
 
 impl<V: Volume> Volume for &mut V {
     ghost use Rattle.std.specs.Prelude.{◌≡◌, ◌∷◌};
 
-    ghost models_content = { V.models_content };
+    ghost models_content = { λ v. V.models_content v.now };
 
     ghost content = { λ v. V.content v.now };
 
@@ -130,7 +133,7 @@ impl<V: Volume> Volume for &mut V {
 
     ghost only_modelled = { λ v c left. V.only_modelled v.now c left };
 
-    ghost content_may_stay = { λ v models_content. V.content_may_stay v.now models_content };
+    ghost content_may_stay = { λ v models. V.content_may_stay v.now models };
 
     fn read(&mut self, area: Area, at: u64, into: &mut [u8]) -> Result<(), Failed> {
         V::read(self, area, at, into)

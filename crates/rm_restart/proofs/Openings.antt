@@ -1,7 +1,8 @@
 -- What is opened, and why not, by what the log and the master said.
-use Rattle.std.proofs.Common.{◌≡◌, inl, inr, ℕ, ◌+◌, List, [], ◌∷◌, length, Result, Ok, Err, IfOk, OnOk, IsTrue, false, refl, sym, ap, subst, ◌∙◌}
+use Rattle.std.proofs.Common.{◌≡◌, inl, inr, ℕ, ◌+◌, List, [], ◌∷◌, length, Result, Ok, Err, IfOk, OnOk, false, refl, sym, ap, subst, ◌∙◌}
 use Rattle.std.proofs.lemmas.Bool.{true≢false}
 use Rattle.rm_types.specs.declared.areas.Area.{Area}
+use Rattle.rm_types.specs.declared.slots.Slot.{Slot}
 use Rattle.rm_types.specs.declared.areas.Area.TheVariants.{Master, Log}
 use Rattle.rm_types.specs.declared.faults.Fault.TheVariants as fault
 use Rattle.rm_types.specs.declared.faults.StoreFault.{StoreFault}
@@ -29,8 +30,8 @@ use Rattle.rm_restart.specs.Outcomes.{Explains, of_store, IsNone}
 use Rattle.rm_restart.specs.Replaying.{has_some, Replays}
 
 -- a fault of the log's attaching
-pub explains_store : (old new : Facts) (fields : Fields) (e : StoreFault) → (IsTrue old.models_content → HasFields (old.content Master) fields) → fields.checkpoint ≡ 0 → LeavesContent new
-    → ((area : Area) (at : ℕ) → e ≡ store.Fault (fault.Damaged area at) → (area ≡ Log) × (IsTrue old.models_content → IsLogDamagedAt (old.content Log) at))
+pub explains_store : (old new : Facts) (fields : Fields) (e : StoreFault) → (new.models_content → HasFields (old.content Master) fields) → fields.checkpoint ≡ 0 → LeavesContent new
+    → ((area : Area) (at : ℕ) → e ≡ store.Fault (fault.Damaged area at) → (area ≡ Log) × (new.models_content → IsLogDamagedAt (old.content Log) at))
     → IsStoreFaultIn Log old.faults new.faults e → Explains old new (of_store e)
 explains_store old new fields (store.Fault (fault.Damaged area at)) has none synced damaged cause =
     let found = damaged area at refl in (
@@ -71,3 +72,26 @@ opens modelled content limit fields log records replay (Ok opened) rules no_chec
       inserted_is = ap (λ (r : Report). r.records) report ∙ all.inserts_are;
     }
 opens modelled content limit fields log records replay (Err e) rules no_checkpoint has attached replayed none pages next logged report = tt
+
+-- what was opened, where the volume models its content to a later moment
+pub opens_on : {modelled later : Type 0} {content : Image} {limit : ℕ} {pages : List (List Slot)} {next : ℕ} {log : LogValue} {inserted : ℕ}
+    → (later → modelled) → Opens modelled content limit pages next log inserted → Opens later content limit pages next log inserted
+opens_on earlier opens = record {
+  fields = opens.fields;
+  batches = opens.batches;
+  read = record {
+    is_fields = opens.read.is_fields;
+    has_fields = λ models. opens.read.has_fields (earlier models);
+    checkpoint = opens.read.checkpoint;
+    are_batches = opens.read.are_batches;
+    has_log = λ models. opens.read.has_log (earlier models);
+  };
+  below = opens.below;
+  plain = opens.plain;
+  settled = opens.settled;
+  count = opens.count;
+  pages_are = opens.pages_are;
+  next_is = opens.next_is;
+  log_is = opens.log_is;
+  inserted_is = opens.inserted_is;
+}

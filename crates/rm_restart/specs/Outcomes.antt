@@ -1,5 +1,5 @@
 -- What each fault of an opening says.
-use Rattle.std.specs.Prelude.{◌≡◌, ℕ, ◌<◌, true, false, IsTrue}
+use Rattle.std.specs.Prelude.{◌≡◌, ℕ, ◌<◌, true, false}
 use Rattle.std.specs.Ordering.{nat_cmp}
 use Rattle.std.specs.BTreeSet.{BTreeSet, contains}
 use Rattle.rm_types.specs.declared.areas.Area.{Area}
@@ -26,9 +26,9 @@ pub record IsMadeAndDamaged (content : Image) (area : Area) (at : ℕ) : Type 0 
 -- What the fault says of the volume before the opening and after it. But for a fault of the volume, and where memory ran
 -- out, all areas were synced.
 abbrev pub Explains : Facts → Facts → RestartFault → Type 0
-Explains old new restart.NotMade = (IsTrue old.models_content → IsUnmade old.content) × LeavesContent new
-Explains old new (restart.NeedsUndo txn) = NeedsUndoOf (IsTrue old.models_content) old.content txn.0 × LeavesContent new
-Explains old new (restart.Fault (fault.Damaged area at)) = (IsTrue old.models_content → IsMadeAndDamaged old.content area at) × LeavesContent new
+Explains old new restart.NotMade = (new.models_content → IsUnmade old.content) × LeavesContent new
+Explains old new (restart.NeedsUndo txn) = NeedsUndoOf new.models_content old.content txn.0 × LeavesContent new
+Explains old new (restart.Fault (fault.Damaged area at)) = (new.models_content → IsMadeAndDamaged old.content area at) × LeavesContent new
 Explains old new (restart.Fault (fault.Volume area)) = HasFailed old new area
 Explains old new restart.NoMemory = Unit {0}
 

@@ -1,6 +1,6 @@
 //! Opening a volume.
 
-ghost use Rattle.std.specs.Prelude.{◌≡◌, ◌+◌, ◌^◌, ◌≤◌, map, IsTrue, IfOk, OnOk, IfErr};
+ghost use Rattle.std.specs.Prelude.{◌≡◌, ◌+◌, ◌^◌, ◌≤◌, map, IfOk, OnOk, IfErr};
 ghost use Rattle.rm_types.specs.declared.numbers.TheConstants.{MAX_LOG};
 ghost use Rattle.rm_outside.specs.Calls.{facts_of, IsAllSynced, OnlyReads};
 ghost use Rattle.rm_master.specs.Fields.{IsFields};
@@ -42,7 +42,7 @@ pub struct Opened {
 fn read_fields<V: Volume>(volume: &mut V) -> Result<Fields, RestartFault>
     ensures rules { IfOk result IsFields }
     ensures none { IfOk result (λ fields. fields.checkpoint ≡ 0) }
-    ensures fields { IfOk result (λ fields. IsTrue V.models_content → HasFields (V.content volume.old Area.Master) fields) }
+    ensures fields { IfOk result (λ fields. V.models_content volume.new → HasFields (V.content volume.old Area.Master) fields) }
     ensures synced { OnOk result (IsAllSynced V.Volume volume.new) }
     ensures cause { IfErr result (Explains (facts_of V.Volume volume.old) (facts_of V.Volume volume.new)) }
     ensures reads { OnlyReads V.Volume Area.Log volume.old volume.new }
@@ -99,9 +99,9 @@ fn read_log<V: Volume>(
     requires limit { limit ≤ MAX_LOG }
     requires rules { IsFields fields.now }
     requires none { fields.now.checkpoint ≡ 0 }
-    requires fields { IsTrue V.models_content → HasFields (V.content volume.old Area.Master) fields.now }
+    requires fields { V.models_content volume.old → HasFields (V.content volume.old Area.Master) fields.now }
     requires synced { IsAllSynced V.Volume volume.old }
-    ensures opened { IfOk result (λ opened. Opens (IsTrue V.models_content) (V.content volume.old) limit (slots_of opened.pages.items) opened.next opened.log opened.report.records) }
+    ensures opened { IfOk result (λ opened. Opens (V.models_content volume.new) (V.content volume.old) limit (slots_of opened.pages.items) opened.next opened.log opened.report.records) }
     ensures next { IfOk result (λ opened. opened.next ≤ 2 ^ 32) }
     ensures report { IfOk result (λ opened. opened.report ≡ record { redo = 0; records = opened.report.records; applied = opened.report.records; undone = 0 }) }
     ensures cause { IfErr result (Explains (facts_of V.Volume volume.old) (facts_of V.Volume volume.new)) }
@@ -128,7 +128,7 @@ fn read_log<V: Volume>(
 /// - [`RestartFault::NoMemory`].
 pub fn restart<V: Volume>(alloc: Global, volume: &mut V, limit: u64) -> Result<Opened, RestartFault>
     requires { limit ≤ MAX_LOG }
-    ensures opened { IfOk result (λ opened. Opens (IsTrue V.models_content) (V.content volume.old) limit (map (λ page. page.slots) opened.pages.items) opened.next opened.log opened.report.records) }
+    ensures opened { IfOk result (λ opened. Opens (V.models_content volume.new) (V.content volume.old) limit (map (λ page. page.slots) opened.pages.items) opened.next opened.log opened.report.records) }
     ensures next { IfOk result (λ opened. (1 ≤ opened.next) × (opened.next ≤ 2 ^ 32)) }
     ensures report { IfOk result (λ opened. opened.report ≡ record { redo = 0; records = opened.report.records; applied = opened.report.records; undone = 0 }) }
     ensures synced { OnOk result (IsAllSynced V.Volume volume.new) }

@@ -40,3 +40,7 @@ gates_rise one = (omega (arith, one.next_is, one.is.range.some), omega (arith, o
 pub damaged_there : {modelled : Type 0} {area : Bytes} {gate at : ℕ} {records : List Logged} → ReadsBatches modelled area gate records → modelled → IsWrongAfter area gate at → IsDamagedAt area at
 damaged_there {area = area} {at = at} before models wrong =
     record { batches = before.batches; stands = before.stands models; wrong = subst (λ (n : ℕ). IsWrongAfter area n at) before.gate_is wrong }
+
+-- what was read goes on standing while the volume models its content
+pub batches_on : {modelled later : Type 0} {area : Bytes} {gate : ℕ} {records : List Logged} → (later → modelled) → ReadsBatches modelled area gate records → ReadsBatches later area gate records
+batches_on earlier before = record { batches = before.batches; are_batches = before.are_batches; stands = λ models. before.stands (earlier models); gate_is = before.gate_is; history_is = before.history_is }

@@ -81,3 +81,7 @@ batch_is_wrong {area} {gate} {len} {at} {bytes} opened shown long stops models =
 -- what stands after a call that only read stood there before it
 pub shows_before : {content later : Image} {at : ℕ} {bytes read : List ℕ} → later ≡ content → bytes ≡ read → Shows (later Log) at read → Shows (content Log) at bytes
 shows_before {at = at} {read = read} same is shown = rw is (subst (λ (image : Image). Shows (image Log) at read) same shown)
+
+-- what was read goes on standing while the volume models its content
+pub open_on : {area : Bytes} {gate len : ℕ} {modelled later : Type 0} → (later → modelled) → IsOpen modelled area gate len → IsOpen later area gate len
+open_on before opened = record { range = opened.range; shown = λ models. opened.shown (before models) }

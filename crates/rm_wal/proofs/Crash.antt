@@ -56,9 +56,9 @@ module _ {gate : ℕ} {written : List ℕ} where
       }
 
   -- The tail is written and synced, and then the gate is written. The bytes stand where the volume models its content.
-  module _ {models : Type 0} {a b c d : Facts} (writes : Writing (Torn Log (gate + 1) written) (Torn Log (gate + 1) written) a b)
-      (bytes : models → Shows (b.content Log) (gate + 1) written) (syncs : Reading false false b c)
-      (durable : IsDurable Log c.content c.may_leave) (only : (x : Image) → c.may_leave x → models)
+  module _ {a b c d : Facts} (writes : Writing (Torn Log (gate + 1) written) (Torn Log (gate + 1) written) a b)
+      (bytes : b.models_content → Shows (b.content Log) (gate + 1) written) (syncs : Reading false false b c)
+      (durable : IsDurable Log c.content c.may_leave) (only : (x : Image) → c.may_leave x → c.models_content)
       (opens : Writing (Torn Log gate (1 ∷ [])) (Torn Log gate (1 ∷ [])) c d) where
     tail : Writing (FlushStep gate written) (FlushStep gate written) a c
     tail = writes_synced (tail_written writes) syncs
@@ -66,11 +66,12 @@ module _ {gate : ℕ} {written : List ℕ} where
     staged : (x : Image) → c.may_leave x → IsStaged gate written a.may_leave x
     staged x now = record {
       comes = tail.crash.each x now;
-      shown = record { each = λ k lt. byte_of x (gate + 1 + k) (durable.each x now) syncs.content ∙ (bytes (only x now)).each k lt };
+      shown = record { each = λ k lt. byte_of x (gate + 1 + k) (durable.each x now) syncs.content ∙ (bytes (syncs.modelled (only x now))).each k lt };
     }
 
     pub gate_written : Writing (KeepsOthers Log) (FlushStep gate written) a d
     gate_written = record {
+      modelled = λ models. tail.modelled (opens.modelled models);
       content = record { each = λ other apart. opens.content.areas other apart ∙ tail.content.others.each other apart };
       crash = record { each = λ x now. (gate_torn staged x (opens.crash.each x now)).comes };
       time = joined tail.time (weaker opens.time (λ x comes. (gate_torn staged x comes).comes));
@@ -79,10 +80,10 @@ module _ {gate : ℕ} {written : List ℕ} where
 
     -- and synced
     module _ {e : Facts} (last : Reading false false d e) where
-      pub gate_opened : (models → Shows (d.content Log) gate (1 ∷ [])) → ((x : Image) → e.may_leave x → models)
+      pub gate_opened : (d.models_content → Shows (d.content Log) gate (1 ∷ [])) → ((x : Image) → e.may_leave x → e.models_content)
           → IsDurable Log e.content e.may_leave
           → (x : Image) → e.may_leave x → IsFlushed gate written x
       gate_opened byte modelled synced x now =
           let here : gate ≡ gate + 0 = omega arith in
-          let opened = byte_of x gate (synced.each x now) last.content ∙ ap (d.content Log) here ∙ (byte (modelled x now)).each 0 (omega arith) in
+          let opened = byte_of x gate (synced.each x now) last.content ∙ ap (d.content Log) here ∙ (byte (last.modelled (modelled x now))).each 0 (omega arith) in
           record { opened = opened; shown = (gate_torn staged x (opens.crash.each x (last.crash.each x now))).shown }

@@ -1,6 +1,6 @@
 //! Attaching a log: reading the batches that stand in area Log.
 
-ghost use Rattle.std.specs.Prelude.{◌≡◌, ℕ, ◌≤◌, IsTrue, IfOk, Err};
+ghost use Rattle.std.specs.Prelude.{◌≡◌, ℕ, ◌≤◌, IfOk, Err};
 ghost use Rattle.rm_types.specs.declared.areas.Area.{Area as Areas};
 ghost use Rattle.rm_types.specs.declared.numbers.TheConstants.{MAX_LOG};
 ghost use Rattle.rm_outside.specs.Calls.{OnlyReads, StoreFailsIn};
@@ -24,9 +24,9 @@ pub struct Attached {
 
 // The records of all batches before the first gate that is closed, and that gate.
 fn read_batches<V: Volume>(alloc: Global, volume: &mut V) -> Result<(Vec<Logged>, u64), StoreFault>
-    ensures found { IfOk result (λ found. ReadsAllBatches (IsTrue V.models_content) (V.content volume.old Area.Log) found.1 found.0.items) }
+    ensures found { IfOk result (λ found. ReadsAllBatches (V.models_content volume.new) (V.content volume.old Area.Log) found.1 found.0.items) }
     ensures bound { IfOk result (λ found. found.1 ≤ MAX_LOG) }
-    ensures damaged { (area : Areas) (at : ℕ) → result ≡ Err (StoreFault.Fault (Fault.Damaged area at)) → (area ≡ Area.Log) × (IsTrue V.models_content → IsDamagedAt (V.content volume.old Area.Log) at) }
+    ensures damaged { (area : Areas) (at : ℕ) → result ≡ Err (StoreFault.Fault (Fault.Damaged area at)) → (area ≡ Area.Log) × (V.models_content volume.new → IsDamagedAt (V.content volume.old Area.Log) at) }
     ensures cause { StoreFailsIn V.Volume Area.Log volume.old volume.new result }
     ensures reads { OnlyReads V.Volume Area.Log volume.old volume.new }
 {
@@ -53,8 +53,8 @@ impl Log {
         limit: u64,
     ) -> Result<Attached, StoreFault>
         requires { limit ≤ MAX_LOG }
-        ensures attached { IfOk result (λ attached. Attaches (IsTrue V.models_content) (V.content volume.old Area.Log) limit attached.log attached.records.items) }
-        ensures damaged { (area : Areas) (at : ℕ) → result ≡ Err (StoreFault.Fault (Fault.Damaged area at)) → (area ≡ Area.Log) × (IsTrue V.models_content → IsDamagedAt (V.content volume.old Area.Log) at) }
+        ensures attached { IfOk result (λ attached. Attaches (V.models_content volume.new) (V.content volume.old Area.Log) limit attached.log attached.records.items) }
+        ensures damaged { (area : Areas) (at : ℕ) → result ≡ Err (StoreFault.Fault (Fault.Damaged area at)) → (area ≡ Area.Log) × (V.models_content volume.new → IsDamagedAt (V.content volume.old Area.Log) at) }
         ensures cause { StoreFailsIn V.Volume Area.Log volume.old volume.new result }
         ensures reads { OnlyReads V.Volume Area.Log volume.old volume.new }
     {

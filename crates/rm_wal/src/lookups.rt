@@ -1,6 +1,6 @@
 //! Finding a record by its LSN, as an undo does.
 
-ghost use Rattle.std.specs.Prelude.{◌≡◌, ℕ, ◌<◌, ◌≤◌, IsTrue, vec_len, IfOk, Err};
+ghost use Rattle.std.specs.Prelude.{◌≡◌, ℕ, ◌<◌, ◌≤◌, vec_len, IfOk, Err};
 ghost use Rattle.rm_types.specs.declared.areas.Area.{Area as Areas};
 ghost use Rattle.rm_types.specs.declared.numbers.TheConstants.{MAX_LOG};
 ghost use Rattle.rm_outside.specs.Calls.{HasBytes, OnlyReads, StoreFailsIn};
@@ -21,8 +21,8 @@ use std::alloc::Global;
 // by one call, and a short one.
 fn read_enough<V: Volume>(alloc: Global, volume: &mut V, at: u64) -> Result<Vec<u8>, StoreFault>
     requires { at ≤ MAX_LOG }
-    ensures bytes { IfOk result (λ bytes. HasBytes V.Volume volume.old Area.Log at bytes.items) }
-    ensures enough { IfOk result (λ bytes. IsTrue V.models_content → AreWithin (V.content volume.old Area.Log) at (vec_len bytes)) }
+    ensures bytes { IfOk result (λ bytes. HasBytes V.Volume volume.old volume.new Area.Log at bytes.items) }
+    ensures enough { IfOk result (λ bytes. V.models_content volume.new → AreWithin (V.content volume.old Area.Log) at (vec_len bytes)) }
     ensures damaged { (area : Areas) (place : ℕ) → result ≡ Err (StoreFault.Fault (Fault.Damaged area place)) → ⊥ }
     ensures cause { StoreFailsIn V.Volume Area.Log volume.old volume.new result }
     ensures reads { OnlyReads V.Volume Area.Log volume.old volume.new }
@@ -39,8 +39,8 @@ fn read_enough<V: Volume>(alloc: Global, volume: &mut V, at: u64) -> Result<Vec<
 fn read_at<V: Volume>(alloc: Global, volume: &mut V, at: u64) -> Result<LogRecord, StoreFault>
     requires { at ≤ MAX_LOG }
     ensures is_record { IfOk result (λ found. IsRecord found) }
-    ensures found { IfOk result (λ found. HasBytes V.Volume volume.old Area.Log at (spelling found)) }
-    ensures damaged { (area : Areas) (place : ℕ) → result ≡ Err (StoreFault.Fault (Fault.Damaged area place)) → (area ≡ Area.Log) × (place ≡ at) × (IsTrue V.models_content → HasNoneAt (V.content volume.old Area.Log) at) }
+    ensures found { IfOk result (λ found. HasBytes V.Volume volume.old volume.new Area.Log at (spelling found)) }
+    ensures damaged { (area : Areas) (place : ℕ) → result ≡ Err (StoreFault.Fault (Fault.Damaged area place)) → (area ≡ Area.Log) × (place ≡ at) × (V.models_content volume.new → HasNoneAt (V.content volume.old Area.Log) at) }
     ensures cause { StoreFailsIn V.Volume Area.Log volume.old volume.new result }
     ensures reads { OnlyReads V.Volume Area.Log volume.old volume.new }
 {
@@ -83,10 +83,10 @@ impl Log {
     ) -> Result<LogRecord, StoreFault>
         requires { lsn.0 < end_of self.now }
         ensures is_record { IfOk result (λ found. IsRecord found) }
-        ensures durable { IfOk result (λ found. lsn.0 < self.now.batch → HasBytes V.Volume volume.old Area.Log lsn.0 (spelling found)) }
+        ensures durable { IfOk result (λ found. lsn.0 < self.now.batch → HasBytes V.Volume volume.old volume.new Area.Log lsn.0 (spelling found)) }
         ensures in_tail { IfOk result (λ found. self.now.batch ≤ lsn.0 → StandsInTail self.now lsn.0 found) }
         ensures damaged { (area : Areas) (at : ℕ) → result ≡ Err (StoreFault.Fault (Fault.Damaged area at)) → (area ≡ Area.Log) × (at ≡ lsn.0)
-            × (lsn.0 < self.now.batch → IsTrue V.models_content → HasNoneAt (V.content volume.old Area.Log) lsn.0) × (self.now.batch ≤ lsn.0 → HasNoneInTail self.now lsn.0) }
+            × (lsn.0 < self.now.batch → V.models_content volume.new → HasNoneAt (V.content volume.old Area.Log) lsn.0) × (self.now.batch ≤ lsn.0 → HasNoneInTail self.now lsn.0) }
         ensures cause { StoreFailsIn V.Volume Area.Log volume.old volume.new result }
         ensures unread { self.now.batch ≤ lsn.0 → volume.new ≡ volume.old }
         ensures reads { OnlyReads V.Volume Area.Log volume.old volume.new }

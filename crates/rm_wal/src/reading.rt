@@ -28,7 +28,7 @@ pub(crate) fn read_bytes<V: Volume>(
     count: usize,
 ) -> Result<Vec<u8>, StoreFault>
     requires { at + count ≤ 2 ^ 49 }
-    ensures bytes { IfOk result (λ bytes. HasBytes V.Volume volume.old Area.Log at bytes.items) }
+    ensures bytes { IfOk result (λ bytes. HasBytes V.Volume volume.old volume.new Area.Log at bytes.items) }
     ensures len { IfOk result (λ bytes. vec_len bytes ≡ count) }
     ensures damaged { (area : Areas) (place : ℕ) → result ≡ Err (StoreFault.Fault (Fault.Damaged area place)) → ⊥ }
     ensures cause { StoreFailsIn V.Volume Area.Log volume.old volume.new result }
@@ -70,8 +70,8 @@ fn length_of(gate: u64, header: [u8; HEADER]) -> Result<Option<u32>, StoreFault>
 // The length of the records after the gate, None where the gate is closed.
 fn read_header<V: Volume>(volume: &mut V, gate: u64) -> Result<Option<u32>, StoreFault>
     requires { gate ≤ MAX_LOG }
-    ensures found { IfOk result (ReadsHeader (IsTrue V.models_content) (V.content volume.old Area.Log) gate) }
-    ensures damaged { (area : Areas) (at : ℕ) → result ≡ Err (StoreFault.Fault (Fault.Damaged area at)) → (area ≡ Area.Log) × (IsTrue V.models_content → IsWrongAfter (V.content volume.old Area.Log) gate at) }
+    ensures found { IfOk result (ReadsHeader (V.models_content volume.new) (V.content volume.old Area.Log) gate) }
+    ensures damaged { (area : Areas) (at : ℕ) → result ≡ Err (StoreFault.Fault (Fault.Damaged area at)) → (area ≡ Area.Log) × (V.models_content volume.new → IsWrongAfter (V.content volume.old Area.Log) gate at) }
     ensures cause { StoreFailsIn V.Volume Area.Log volume.old volume.new result }
     ensures reads { OnlyReads V.Volume Area.Log volume.old volume.new }
 {
@@ -88,8 +88,8 @@ pub(crate) fn read_batch<V: Volume>(
     records: &mut Vec<Logged>,
 ) -> Result<Option<u64>, StoreFault>
     requires { gate ≤ MAX_LOG }
-    ensures found { IfOk result (ReadsGate (IsTrue V.models_content) (V.content volume.old Area.Log) gate records.old.items records.new.items) }
-    ensures damaged { (area : Areas) (at : ℕ) → result ≡ Err (StoreFault.Fault (Fault.Damaged area at)) → (area ≡ Area.Log) × (IsTrue V.models_content → IsWrongAfter (V.content volume.old Area.Log) gate at) }
+    ensures found { IfOk result (ReadsGate (V.models_content volume.new) (V.content volume.old Area.Log) gate records.old.items records.new.items) }
+    ensures damaged { (area : Areas) (at : ℕ) → result ≡ Err (StoreFault.Fault (Fault.Damaged area at)) → (area ≡ Area.Log) × (V.models_content volume.new → IsWrongAfter (V.content volume.old Area.Log) gate at) }
     ensures cause { StoreFailsIn V.Volume Area.Log volume.old volume.new result }
     ensures reads { OnlyReads V.Volume Area.Log volume.old volume.new }
 {

@@ -22,7 +22,8 @@ returns-then-is_sink-clause-owes g c =
     let new = facts_of V c.do_session-status.new.volume in
     let pages : List (List Slot) = map (λ page. page.slots) c.in-Ok.opened.pages.items in
     let due = lines_due old mid new c.args.lines.now pages c.in-Ok.opened.next c.in-Ok.opened.log c.in-Ok.opened.report.records engine opening.opened
-    c.new-engine.ensures.session c.new-engine.ensures.log c.new-engine.ensures.under c.new-engine.ensures.inserts opening.synced opening.reads.0 c.do_session-status.ensures.writes.0 in
+    c.new-engine.ensures.session c.new-engine.ensures.log c.new-engine.ensures.under c.new-engine.ensures.inserts
+    (g.met.V.Volume.only_modelled c.restart.new.volume) (g.met.V.Volume.only_modelled c.do_session-status.new.volume) opening.synced opening.reads.0 c.do_session-status.ensures.writes.0 in
     let Due : Status → List ℕ → Type 0 = RunText engine.session (used_by engine) c.args.lines.now (LeavesRun engine mid new) (HasFailed mid new) in
     let More : Status → List ℕ → Type 0 = LinesDue old new c.args.lines.now in
     let gathers = c.do_session-status.ensures.gathers in
@@ -38,7 +39,8 @@ returns-in-Ok-flush-clause-owes g c =
     let new = facts_of V c.do_session-status.new.volume in
     let pages : List (List Slot) = map (λ page. page.slots) c.in-Ok.opened.pages.items in
     let due = lines_due old mid new c.args.lines.now pages c.in-Ok.opened.next c.in-Ok.opened.log c.in-Ok.opened.report.records engine opening.opened
-    c.new-engine.ensures.session c.new-engine.ensures.log c.new-engine.ensures.under c.new-engine.ensures.inserts opening.synced opening.reads.0 c.do_session-status.ensures.writes.0 in
+    c.new-engine.ensures.session c.new-engine.ensures.log c.new-engine.ensures.under c.new-engine.ensures.inserts
+    (g.met.V.Volume.only_modelled c.restart.new.volume) (g.met.V.Volume.only_modelled c.do_session-status.new.volume) opening.synced opening.reads.0 c.do_session-status.ensures.writes.0 in
     let Due : Status → List ℕ → Type 0 = RunText engine.session (used_by engine) c.args.lines.now (LeavesRun engine mid new) (HasFailed mid new) in
     let More : Status → List ℕ → Type 0 = LinesDue old new c.args.lines.now in
     let gathers = c.do_session-status.ensures.gathers in
@@ -55,7 +57,8 @@ returns-clause-owes g c =
     let new = facts_of V c.do_session-status.new.volume in
     let pages : List (List Slot) = map (λ page. page.slots) c.in-Ok.opened.pages.items in
     let due = lines_due old mid new c.args.lines.now pages c.in-Ok.opened.next c.in-Ok.opened.log c.in-Ok.opened.report.records engine opening.opened
-    c.new-engine.ensures.session c.new-engine.ensures.log c.new-engine.ensures.under c.new-engine.ensures.inserts opening.synced opening.reads.0 c.do_session-status.ensures.writes.0 in
+    c.new-engine.ensures.session c.new-engine.ensures.log c.new-engine.ensures.under c.new-engine.ensures.inserts
+    (g.met.V.Volume.only_modelled c.restart.new.volume) (g.met.V.Volume.only_modelled c.do_session-status.new.volume) opening.synced opening.reads.0 c.do_session-status.ensures.writes.0 in
     let Due : Status → List ℕ → Type 0 = RunText engine.session (used_by engine) c.args.lines.now (LeavesRun engine mid new) (HasFailed mid new) in
     let More : Status → List ℕ → Type 0 = LinesDue old new c.args.lines.now in
     let gathers = c.do_session-status.ensures.gathers in

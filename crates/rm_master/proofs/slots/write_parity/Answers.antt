@@ -11,5 +11,5 @@ returns-clause-names g c =
     (λ synced image left.
     ap (λ area. area PARITY_AT) (synced.each image left)
     ∙ ap (λ (content : Image). content Master PARITY_AT) c.sync_area.ensures.reads.0.content
-    ∙ (c.in_ok-write_area.ensures.bytes (g.met.V.Volume.only_modelled c.sync_area.new.volume image left)).each 0 (omega arith))
+    ∙ (c.in_ok-write_area.ensures.bytes (c.sync_area.ensures.reads.0.modelled (g.met.V.Volume.only_modelled c.sync_area.new.volume image left))).each 0 (omega arith))
     c.sync_area.ensures.synced

@@ -1,11 +1,11 @@
-use Rattle.std.proofs.Common.{IsTrue, subst, refl, arith}
+use Rattle.std.proofs.Common.{subst, refl, arith}
 use Rattle.std.proofs.lemmas.Result.{err_from_is_err_and}
 use Rattle.rm_types.specs.declared.areas.Area.TheVariants.{Log}
 use Rattle.rm_outside.specs.Images.{Image}
 use Rattle.rm_outside.proofs.CallLemmas.{reads_none, reads_then}
 use Rattle.rm_history.specs.Logs.{IsWrongAfter}
 use Rattle.rm_wal.specs.Batches.{ReadsBatch}
-use Rattle.rm_wal.proofs.AttachSteps.{reads_no_batch, reads_next_batch, gates_rise, damaged_there}
+use Rattle.rm_wal.proofs.AttachSteps.{reads_no_batch, reads_next_batch, gates_rise, damaged_there, batches_on}
 use Rattle.rm_wal.proofs.attaching.read_batches.Goals as goal
 
 pub loop-records-init : goal.loop-records-init
@@ -19,9 +19,9 @@ pub loop-records-preserved : goal.loop-records-preserved
 loop-records-preserved g c =
     let there = c.loop-records.invariant in
     let found = rw c.in-Some.is at c.in_ok-next.ensures.found in
-    let next = subst (λ (image : Image). ReadsBatch (IsTrue g.V.Volume.models_content) (image Log) c.loop-records.gate c.in-Some.next c.loop-records.records.items c.read_batch.new.records.items) there.reads.0.content found in
+    let next = subst (λ (image : Image). ReadsBatch (g.V.Volume.models_content c.read_batch.new.volume) (image Log) c.loop-records.gate c.in-Some.next c.loop-records.records.items c.read_batch.new.records.items) there.reads.0.content found in
     record {
-      before = reads_next_batch there.before next;
+      before = reads_next_batch (batches_on c.in_ok-next.ensures.reads.0.modelled there.before) next;
       bound = (gates_rise next).1;
       reads = (reads_then there.reads.0 c.in_ok-next.ensures.reads.0, cc);
     }
@@ -31,4 +31,4 @@ returns-in_err-next-clause-damaged g c = λ area at modelled.
     let there = c.loop-records.invariant in
     let passed = err_from_is_err_and c.from_residual.result c.from_residual.ensures.1 in
     let damaged = c.in_err-next.ensures.damaged area at cc in
-    (damaged.0, λ models. damaged_there there.before models (subst (λ (image : Image). IsWrongAfter (image Log) c.loop-records.gate at) there.reads.0.content (damaged.1 models)))
+    (damaged.0, λ models. damaged_there (batches_on c.in_err-next.ensures.reads.0.modelled there.before) models (subst (λ (image : Image). IsWrongAfter (image Log) c.loop-records.gate at) there.reads.0.content (damaged.1 models)))

@@ -1,11 +1,11 @@
 use Rattle.std.proofs.Common.{◌∷◌, ◌∙◌, List, sym, ap, refl}
 use Rattle.rm_outside.specs.Images.{Image}
-use Rattle.rm_memory.specs.Puts.{put}
+use Rattle.rm_outside.specs.Puts.{put}
 use Rattle.rm_memory.specs.Areas.{image_of}
-use Rattle.rm_memory.specs.History.{Event, content, Write}
+use Rattle.rm_outside.specs.History.{Event, content, Write}
 use Rattle.rm_memory.specs.Mediums.{events}
 use Rattle.rm_memory.proofs.NoteLemmas.{noted_history, noted_total}
-use Rattle.rm_memory.proofs.HistoryLaws.{content-took, content-lost}
+use Rattle.rm_outside.proofs.HistoryLaws.{content-took, content-lost}
 use Rattle.rm_memory.proofs.medium.Medium.write.Goals as goal
 
 pub invariant_of-self-then-took : goal.invariant_of-self-then-took

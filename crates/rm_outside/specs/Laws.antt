@@ -1,9 +1,9 @@
 -- The laws of a volume, of what was done to it.
-use Rattle.std.proofs.Common.{inl, inr, ℕ, Bool, true, false, IsTrue, List, [], ◌∷◌, length, refl, arith}
+use Rattle.std.proofs.Common.{inl, inr, ℕ, Bool, true, false, List, [], ◌∷◌, length, refl, arith}
 use Rattle.rm_types.specs.declared.areas.Area.{Area}
 use Rattle.rm_outside.specs.Images.{Image, Torn}
-use Rattle.rm_memory.specs.History.{Event, Write, Sync, content, may_leave, left_since}
-use Rattle.rm_memory.specs.PutLaws.{torn_same, torn_put}
+use Rattle.rm_outside.specs.History.{Event, Write, Sync, content, may_leave, left_since}
+use Rattle.rm_outside.specs.PutLaws.{torn_same, torn_put}
 
 pub counts_now : (base : Image) (events : List Event) (t : ℕ) (c : Image) → may_leave base events c → left_since base events t c
 unfolding left_since
@@ -26,6 +26,3 @@ unfolding content may_leave
 content_may_stay base [] = refl
 content_may_stay base (Write area at bytes took ∷ rest) = (content base rest, content_may_stay base rest, torn_by base area at bytes took rest)
 content_may_stay base (Sync area ∷ rest) = (content_may_stay base rest, refl)
-
-pub models : IsTrue true
-models = refl

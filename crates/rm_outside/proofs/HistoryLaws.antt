@@ -3,9 +3,9 @@ use Rattle.std.proofs.Common.{◌≡◌, ◌⊎◌, inl, inr, ℕ, ◌≤◌, Bo
 use Rattle.rm_types.specs.declared.areas.Area.{Area}
 use Rattle.rm_outside.specs.Images.{Image, Torn, Shows}
 use Rattle.rm_outside.specs.Moments.{AddsNone, Follows, IsDurable, Elapses}
-use Rattle.rm_memory.specs.Puts.{put}
-use Rattle.rm_memory.specs.History.{Event, Write, Sync, content, may_leave, left_since}
-use Rattle.rm_memory.specs.PutLaws.{torn_same, put_shows}
+use Rattle.rm_outside.specs.Puts.{put}
+use Rattle.rm_outside.specs.History.{Event, Write, Sync, content, may_leave, left_since}
+use Rattle.rm_outside.specs.PutLaws.{torn_same, put_shows}
 
 -- a write
 pub shows_written : (base : Image) (area : Area) (at : ℕ) (bytes : List ℕ) (rest : List Event) → Shows (content base (Write area at bytes true ∷ rest) area) at bytes

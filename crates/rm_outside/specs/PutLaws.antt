@@ -1,5 +1,5 @@
 -- A write changes its range of its area, and nothing else.
-use Rattle.std.proofs.Common.{◌≡◌, ◌<◌, ◌≤◌, inl, inr, ℕ, ◌+◌, ◌-◌, true, false, List, length, replicate, get_or, refl, ◌∙◌, ap, arith}
+use Rattle.std.proofs.Common.{◌≡◌, ◌<◌, ◌≤◌, inl, inr, ℕ, ◌+◌, ◌-◌, true, false, List, length, replicate, get_or, refl, sym, ◌∙◌, ap, subst, arith}
 use Rattle.std.proofs.lemmas.List.{length-replicate}
 use Rattle.std.proofs.lemmas.Bool.{cond-true, cond-false, lt-ltb, le-ltb}
 use Rattle.rm_types.specs.declared.areas.Area.{Area}
@@ -7,7 +7,7 @@ use Rattle.rm_types.specs.declared.areas.Area.TheVariants.{Master, Log, Data, Sp
 use Rattle.rm_outside.specs.Areas.{is_blocked}
 use Rattle.rm_outside.specs.Images.{Bytes, Image, Torn, Shows}
 use Rattle.rm_outside.specs.Areas.{is_same}
-use Rattle.rm_memory.specs.Puts.{put_bytes, put}
+use Rattle.rm_outside.specs.Puts.{put_bytes, put}
 
 pub same-refl : (a : Area) → is_same a a ≡ true
 same-refl Master = refl
@@ -50,6 +50,21 @@ put_shows image area at bytes = record { each = λ k below. ap (λ (b : Bytes). 
 
 pub torn_same : (area : Area) (at : ℕ) (bytes : List ℕ) (image : Image) → Torn area at bytes image image
 torn_same area at bytes image = record { areas = λ _ _. refl; before = λ _ _. refl; after = λ _ _. refl; whole = λ _. inl refl }
+
+-- a write of the same bytes again
+pub torn_then : {area : Area} {at : ℕ} {bytes : List ℕ} {a b c : Image} → Torn area at bytes a b → Torn area at bytes b c → Torn area at bytes a c
+torn_then {area} {at} {bytes} {a} {b} {c} one other = record {
+  areas = λ rest differs. other.areas rest differs ∙ one.areas rest differs;
+  before = λ k below. other.before k below ∙ one.before k below;
+  after = λ k above. other.after k above ∙ one.after k above;
+  whole = λ blocked. elim (other.whole blocked) [
+    | inl same ↦ elim (one.whole blocked) [
+      | inl first ↦ inl (same ∙ first)
+      | inr shown ↦ inr (subst (λ (there : Bytes). Shows there at bytes) (sym same) shown)
+    ]
+    | inr shown ↦ inr shown
+  ];
+}
 
 pub torn_put : (area : Area) (at : ℕ) (bytes : List ℕ) (image : Image) → Torn area at bytes image (put image area at bytes)
 torn_put area at bytes image = record {

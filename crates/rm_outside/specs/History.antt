@@ -2,7 +2,7 @@
 use Rattle.std.specs.Prelude.{◌≡◌, ◌⊎◌, ℕ, ◌≤◌, Bool, List, [], ◌∷◌, length, if◌then◌else◌}
 use Rattle.rm_types.specs.declared.areas.Area.{Area}
 use Rattle.rm_outside.specs.Images.{Image, Torn}
-use Rattle.rm_memory.specs.Puts.{put}
+use Rattle.rm_outside.specs.Puts.{put}
 
 -- A write, with whether it took: one that failed did not. A sync that was answered Ok.
 pub data Event : Type 0 where
