@@ -1,0 +1,65 @@
+//! A list of calls that only clauses read. No memory holds it, and noting a call takes no time.
+
+ghost use Rattle.std.specs.Prelude.{◌≡◌, [], ◌∷◌};
+ghost use Rattle.rm_calls.specs.Calls.{Read, Wrote, Synced};
+
+use crate::noted::Noted;
+use rm_types::Area;
+use std::marker::Model;
+
+// What is noted: a list of calls.
+struct Calls {}
+
+impl Model for Calls {
+    ghost use Rattle.std.specs.Prelude.{List, []};
+    ghost use Rattle.rm_calls.specs.Calls.{Call};
+
+    ghost Value = { List Call };
+
+    ghost view = { λ _. [] };
+}
+
+/// The calls so far with their answers, the newest first. No memory holds them, and only the functions below change
+/// them.
+#[derive(Drop)]
+pub struct Record {
+    calls: Noted<Calls>,
+}
+
+impl Record {
+    /// No call yet.
+    #[inline(always)]
+    pub fn new() -> Record
+        ensures { result.calls ≡ [] }
+    {
+        Record {
+            calls: Noted::of(&()),
+        }
+    }
+
+    /// A read, with the bytes that came.
+    #[inline(always)]
+    pub fn read(&mut self, area: Area, at: u64, ok: bool, bytes: &[u8])
+        ensures { self.new.calls ≡ Read area at ok bytes.now ∷ self.old.calls }
+    {
+        self.calls = Noted::of(&(&self.calls, area, at, ok, bytes));
+    }
+
+    /// A write of these bytes, with how many were taken.
+    #[inline(always)]
+    pub fn wrote(&mut self, area: Area, at: u64, bytes: &[u8], ok: bool, count: usize)
+        ensures { self.new.calls ≡ Wrote area at bytes.now ok count ∷ self.old.calls }
+    {
+        self.calls = Noted::of(&(&self.calls, area, at, bytes, ok, count));
+    }
+
+    /// A sync.
+    #[inline(always)]
+    pub fn synced(&mut self, area: Area, ok: bool)
+        ensures { self.new.calls ≡ Synced area ok ∷ self.old.calls }
+    {
+        self.calls = Noted::of(&(&self.calls, area, ok));
+    }
+}
+
+const _: () = prove!(size_of::<Record>() == 0);
