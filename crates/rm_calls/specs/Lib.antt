@@ -1,3 +1,6 @@
+pub mod Answers
 pub mod Calls
-pub mod CallLaws
+pub mod Replay
+pub mod ReplayLaws
+pub mod Honest
 pub mod Steps

@@ -1,31 +1,28 @@
 //! What is asked of five files: a record of the calls on them, whatever those answer.
 
+use crate::Answer;
 use rm_types::Area;
-use std::io;
 
 /// Five files, of which each method makes one call and notes it with its answer.
 pub trait Calls: Drop {
-    ghost use Rattle.std.specs.Prelude.{◌≡◌, ◌≤◌, ◌<◌, ◌∷◌, [], true, false, List, length, take, is_ok, IfOk, MatchResult};
+    ghost use Rattle.std.specs.Prelude.{◌≡◌, ◌≤◌, ◌<◌, ◌∷◌, List, length, take};
+    ghost use Rattle.rm_calls.specs.Answers.{count_of};
     ghost use Rattle.rm_calls.specs.Calls.{Call, Read, Wrote, Synced};
 
     /// Each call so far with its answer, the newest first.
     ghost history: { Self → List Call };
 
-    /// Reads some bytes at an offset, and gives their number. 0 is the end.
-    fn read_some(&mut self, area: Area, at: u64, into: &mut [u8]) -> io::Result<usize>
+    /// Reads some bytes at an offset. 0 bytes are the end.
+    fn read_some(&mut self, area: Area, at: u64, into: &mut [u8]) -> Answer
         requires { 0 < length into.old }
-        ensures bound { IfOk result (λ count. count ≤ length into.new) }
-        ensures noted { MatchResult result
-            (λ count. history self.new ≡ Read area at true (take count into.new) ∷ history self.old)
-            (λ _. history self.new ≡ Read area at false [] ∷ history self.old) };
+        ensures bound { count_of result ≤ length into.new }
+        ensures noted { history self.new ≡ Read area at (take (count_of result) into.new) result ∷ history self.old };
 
-    /// Writes some bytes at an offset, and gives their number.
-    fn write_some(&mut self, area: Area, at: u64, from: &[u8]) -> io::Result<usize>
-        ensures noted { MatchResult result
-            (λ count. history self.new ≡ Wrote area at from.now true count ∷ history self.old)
-            (λ _. history self.new ≡ Wrote area at from.now false 0 ∷ history self.old) };
+    /// Writes some bytes at an offset.
+    fn write_some(&mut self, area: Area, at: u64, from: &[u8]) -> Answer
+        ensures noted { history self.new ≡ Wrote area at from.now result ∷ history self.old };
 
     /// Makes the area's file durable.
-    fn sync(&mut self, area: Area) -> io::Result<()>
-        ensures noted { history self.new ≡ Synced area (is_ok result) ∷ history self.old };
+    fn sync(&mut self, area: Area) -> Answer
+        ensures noted { history self.new ≡ Synced area result ∷ history self.old };
 }

@@ -6,6 +6,7 @@
 //! under which the volume models its content; nothing is assumed of the program or of the files.
 #![tactic(auto)]
 
+mod answer;
 mod calls;
 mod modelled;
 mod noted;
@@ -14,6 +15,7 @@ mod reads;
 mod record;
 mod start;
 
+pub use answer::Answer;
 pub use calls::Calls;
 pub use modelled::Modelled;
 pub use noted::Noted;

@@ -1,7 +1,10 @@
 //! A volume that is read off what five files held and the record of the calls on them.
 
-ghost use Rattle.std.specs.Prelude.{◌≡◌, ◌≤◌, length};
+ghost use Rattle.std.specs.Prelude.{◌≡◌, ◌≤◌, ◌<◌, length, IsTrue};
 ghost use Rattle.rm_types.specs.declared.areas.Area.{Area};
+ghost use Rattle.rm_outside.specs.PerArea.{of_area};
+ghost use Rattle.rm_calls.specs.Calls.{has_fault};
+ghost use Rattle.rm_calls.specs.Steps.{IsKnown};
 
 use crate::reading::{read_unless, sync_unless, write_unless};
 use crate::reads::Reads;
@@ -21,14 +24,16 @@ pub struct Modelled<C: Calls, S: Start> {
     faults: PerArea<u64>,
     lost: PerArea<bool>,
     reads: Reads,
+    pub ghost known: { (area : Area) → IsKnown (of_area lost area) (C.Calls.history calls) area },
+    pub ghost blamed: { (area : Area) → 0 < of_area faults area → IsTrue (has_fault (C.Calls.history calls) area) },
 }
 
 impl<C: Calls, S: Start> Modelled<C, S> {
-    ghost use Rattle.std.specs.Prelude.{false};
-    ghost use Rattle.rm_outside.specs.PerArea.{of_area};
+    ghost use Rattle.std.specs.Prelude.{false, []};
 
     /// A volume over these files. Nothing has failed or was read yet.
     pub fn new(calls: C) -> Modelled<C, S>
+        requires { C.history calls ≡ [] }
         ensures calls { result.calls ≡ calls }
         ensures faults { (area : Area) → of_area result.faults area ≡ 0 }
         ensures lost { (area : Area) → of_area result.lost area ≡ false }
@@ -49,10 +54,9 @@ impl<C: Calls, S: Start> Modelled<C, S> {
 }
 
 impl<C: Calls, S: Start> Volume for Modelled<C, S> {
-    ghost use Rattle.std.specs.Prelude.{[], length};
-    ghost use Rattle.rm_outside.specs.PerArea.{of_area};
-    ghost use Rattle.rm_calls.specs.Calls.{IsHonest, held, MayLeave, left_since};
-    ghost use Rattle.rm_calls.specs.CallLaws as laws;
+    ghost use Rattle.std.specs.Prelude.{[]};
+    ghost use Rattle.rm_calls.specs.Replay.{IsHonest, held, MayLeave, left_since};
+    ghost use Rattle.rm_calls.specs.ReplayLaws as laws;
 
     ghost models_content = { λ v. IsHonest S.Start.image (C.Calls.history v.calls) };
 

@@ -1,52 +1,32 @@
-//! Reads, writes and syncs over files that keep a record, and what they are where the files held `S`. A call that a
-//! signal interrupted is made again.
+//! Reads, writes and syncs over files that keep a record, and what they are where the files held `S`. A read or a write
+//! that a signal interrupted is made again.
 
-ghost use Rattle.std.specs.Prelude.{◌≡◌, IsTrue, ◌≤◌, ◌<◌, ◌+◌, ◌^◌, false, length, take, IfOk, OnOk};
-ghost use Rattle.rm_outside.specs.Images.{Shows};
-ghost use Rattle.rm_outside.specs.Moments.{IsDurable};
-ghost use Rattle.rm_calls.specs.Calls.{EndsAt, IsHonest, held, MayLeave};
-ghost use Rattle.rm_calls.specs.Steps.{Reads, Writes, Syncs};
+ghost use Rattle.std.specs.Prelude.{◌≡◌, IsTrue, ◌≤◌, ◌<◌, ◌+◌, ◌^◌, false, length, take, IfOk, OnErr};
+ghost use Rattle.rm_calls.specs.Calls.{has_fault, is_lost};
+ghost use Rattle.rm_calls.specs.Replay.{EndsAt, IsHonest, held};
+ghost use Rattle.rm_calls.specs.Steps.{Reads, Shown, Comes, IsKnown, Fills, Puts, Settles};
 
 use crate::{Calls, Start};
+use rm_outside::Failed;
 use rm_types::Area;
-use std::io::{self, ErrorKind};
 
-// Reads some bytes in one call.
-fn read_once<C: Calls, S: Start>(
-    calls: &mut C,
-    area: Area,
-    at: u64,
-    into: &mut [u8],
-) -> io::Result<usize>
-    requires { 0 < length into.old }
-    ensures bound { IfOk result (λ count. count ≤ length into.new) }
-    ensures bytes { IfOk result (λ count. IsHonest S.image (C.history calls.new) → Shows (held S.image (C.history calls.old) area) at (take count into.new)) }
-    ensures end { IfOk result (λ count. count ≡ 0 → IsHonest S.image (C.history calls.new) → EndsAt (held S.image (C.history calls.old) area) at) }
-    ensures reads { Reads S.image (C.history calls.old) (C.history calls.new) }
-{
-    calls.read_some(area, at, into)
-}
-
-// Reads some bytes.
+// Reads some bytes, and gives their number.
 fn read_piece<C: Calls, S: Start>(
     calls: &mut C,
     area: Area,
     at: u64,
     into: &mut [u8],
-) -> io::Result<usize>
+) -> Result<usize, Failed>
     requires { 0 < length into.old }
-    ensures bound { IfOk result (λ count. count ≤ length into.new) }
-    ensures bytes { IfOk result (λ count. IsHonest S.image (C.history calls.new) → Shows (held S.image (C.history calls.old) area) at (take count into.new)) }
-    ensures end { IfOk result (λ count. count ≡ 0 → IsHonest S.image (C.history calls.new) → EndsAt (held S.image (C.history calls.old) area) at) }
-    ensures reads { Reads S.image (C.history calls.old) (C.history calls.new) }
+    ensures { Comes S.image area at into.new (C.history calls.old) (C.history calls.new) result }
 {
     for _ in 0..u64::MAX {
-        match read_once::<C, S>(calls, area, at, into) {
-            Err(error) if error.kind() == ErrorKind::Interrupted => {}
-            answer => return answer,
+        let answer = calls.read_some(area, at, into);
+        if !answer.is_interrupted() {
+            return answer.outcome();
         }
     }
-    Err(ErrorKind::Interrupted.into())
+    calls.read_some(area, at, into).outcome()
 }
 
 // Reads the bytes at an offset up to the end of the area, and gives their number.
@@ -56,11 +36,13 @@ fn read_front<C: Calls, S: Start>(
     area: Area,
     at: u64,
     into: &mut [u8],
-) -> io::Result<usize>
+) -> Result<usize, Failed>
     requires { at + length into.old < 2 ^ 64 }
     ensures bound { IfOk result (λ done. done ≤ length into.new) }
-    ensures front { IfOk result (λ done. IsHonest S.image (C.history calls.new) → Shows (held S.image (C.history calls.old) area) at (take done into.new)) }
-    ensures end { IfOk result (λ done. done < length into.new → IsHonest S.image (C.history calls.new) → EndsAt (held S.image (C.history calls.old) area) (at + done)) }
+    ensures front { IfOk result (λ done. Shown S.image area at (take done into.new) (C.history calls.old) (C.history calls.new)) }
+    ensures end { IfOk result (λ done. done < length into.new → IsHonest S.image (C.history calls.new) → is_lost (C.history calls.old) area ≡ false
+        → EndsAt (held S.image (C.history calls.old) area) (at + done)) }
+    ensures fault { OnErr result (IsTrue (has_fault (C.history calls.new) area)) }
     ensures reads { Reads S.image (C.history calls.old) (C.history calls.new) }
 {
     let mut done = 0;
@@ -74,57 +56,8 @@ fn read_front<C: Calls, S: Start>(
     Ok(done)
 }
 
-// Fills the buffer with the bytes at an offset. Past the end they are 0.
-fn read_all<C: Calls, S: Start>(
-    calls: &mut C,
-    area: Area,
-    at: u64,
-    into: &mut [u8],
-) -> io::Result<()>
-    requires { at + length into.old < 2 ^ 64 }
-    ensures bytes { OnOk result (IsHonest S.image (C.history calls.new) → Shows (held S.image (C.history calls.old) area) at into.new) }
-    ensures reads { Reads S.image (C.history calls.old) (C.history calls.new) }
-{
-    let done = read_front::<C, S>(calls, area, at, into)?;
-    into[done..].fill(0);
-    Ok(())
-}
-
-// Writes the bytes in one call.
-fn write_once<C: Calls, S: Start>(
-    calls: &mut C,
-    area: Area,
-    at: u64,
-    from: &[u8],
-) -> io::Result<usize>
-    ensures shows { IfOk result (λ count. count ≡ length from.now → Shows (held S.image (C.history calls.new) area) at from.now) }
-    ensures writes { Writes S.image area at from.now (C.history calls.old) (C.history calls.new) }
-{
-    calls.write_some(area, at, from)
-}
-
-// Writes the bytes, all in one call. A call that takes fewer is a fault, as of a device that is full.
-fn write_whole<C: Calls, S: Start>(
-    calls: &mut C,
-    area: Area,
-    at: u64,
-    from: &[u8],
-) -> io::Result<()>
-    ensures shows { OnOk result (Shows (held S.image (C.history calls.new) area) at from.now) }
-    ensures writes { Writes S.image area at from.now (C.history calls.old) (C.history calls.new) }
-{
-    for _ in 0..u64::MAX {
-        match write_once::<C, S>(calls, area, at, from) {
-            Ok(count) if count == from.len() => return Ok(()),
-            Ok(_) => return Err(ErrorKind::WriteZero.into()),
-            Err(error) if error.kind() == ErrorKind::Interrupted => {}
-            Err(error) => return Err(error),
-        }
-    }
-    Err(ErrorKind::Interrupted.into())
-}
-
-/// Whether the buffer was filled with the bytes at an offset. Where the area is lost no call is made.
+/// Whether the buffer was filled with the bytes at an offset. Past the end they are 0. Where the area is lost no call is
+/// made.
 pub fn read_unless<C: Calls, S: Start>(
     calls: &mut C,
     lost: bool,
@@ -132,15 +65,23 @@ pub fn read_unless<C: Calls, S: Start>(
     at: u64,
     into: &mut [u8],
 ) -> bool
-    requires { at + length into.old < 2 ^ 64 }
-    ensures bytes { IsTrue result → IsHonest S.image (C.history calls.new) → Shows (held S.image (C.history calls.old) area) at into.new }
-    ensures reads { Reads S.image (C.history calls.old) (C.history calls.new) }
+    requires reach { at + length into.old < 2 ^ 64 }
+    requires known { IsKnown lost (C.history calls.old) area }
+    ensures fills { Fills S.image area at into.new (C.history calls.old) (C.history calls.new) result }
     ensures lost { IsTrue lost → (result ≡ false) × (C.history calls.new ≡ C.history calls.old) }
 {
-    !lost && read_all::<C, S>(calls, area, at, into).is_ok()
+    if lost {
+        return false;
+    }
+    let Ok(done) = read_front::<C, S>(calls, area, at, into) else {
+        return false;
+    };
+    into[done..].fill(0);
+    true
 }
 
-/// Whether the bytes were written. Where the area is lost no call is made.
+/// Whether the bytes were written, all in one call. A call that takes fewer is a fault, as of a device that is full.
+/// Where the area is lost no call is made.
 pub fn write_unless<C: Calls, S: Start>(
     calls: &mut C,
     lost: bool,
@@ -148,22 +89,31 @@ pub fn write_unless<C: Calls, S: Start>(
     at: u64,
     from: &[u8],
 ) -> bool
-    ensures shows { IsTrue result → Shows (held S.image (C.history calls.new) area) at from.now }
-    ensures writes { Writes S.image area at from.now (C.history calls.old) (C.history calls.new) }
-    ensures lost { IsTrue lost → (result ≡ false) × (C.history calls.new ≡ C.history calls.old) }
-{
-    !lost && write_whole::<C, S>(calls, area, at, from).is_ok()
-}
-
-/// Whether the area's file was made durable, in one call: the system may have dropped what one that failed was to make
-/// durable. Where the area is lost no call is made.
-pub fn sync_unless<C: Calls, S: Start>(calls: &mut C, lost: bool, area: Area) -> bool
-    ensures durable { IsTrue result → IsDurable area (held S.image (C.history calls.old)) (MayLeave S.image (C.history calls.new)) }
-    ensures syncs { Syncs S.image (C.history calls.old) (C.history calls.new) }
+    requires { IsKnown lost (C.history calls.old) area }
+    ensures puts { Puts S.image area at from.now (C.history calls.old) (C.history calls.new) result }
     ensures lost { IsTrue lost → (result ≡ false) × (C.history calls.new ≡ C.history calls.old) }
 {
     if lost {
         return false;
     }
-    calls.sync(area).is_ok()
+    for _ in 0..u64::MAX {
+        let answer = calls.write_some(area, at, from);
+        if !answer.is_interrupted() {
+            return answer.is_whole(from.len());
+        }
+    }
+    calls.write_some(area, at, from).is_whole(from.len())
+}
+
+/// Whether the area's file was made durable, in one call: the system may have dropped what one that was not done was to
+/// make durable. Where the area is lost no call is made.
+pub fn sync_unless<C: Calls, S: Start>(calls: &mut C, lost: bool, area: Area) -> bool
+    requires { IsKnown lost (C.history calls.old) area }
+    ensures settles { Settles S.image area (C.history calls.old) (C.history calls.new) result }
+    ensures lost { IsTrue lost → (result ≡ false) × (C.history calls.new ≡ C.history calls.old) }
+{
+    if lost {
+        return false;
+    }
+    calls.sync(area).is_done()
 }

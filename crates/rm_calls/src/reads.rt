@@ -1,20 +1,9 @@
 //! How much was read.
 
-ghost use Rattle.std.specs.Prelude.{◌≡◌, ◌≤◌, ◌<◌, ◌+◌, false, IsTrue};
-ghost use Rattle.rm_outside.specs.Faults.{Rises, last_count};
-ghost use Rattle.rm_outside.specs.Counts.{raised, CountsBlock, CountsBytes, CountsAtMost};
+ghost use Rattle.std.specs.Prelude.{◌≡◌, false, IsTrue};
+ghost use Rattle.rm_outside.specs.Counts.{CountsBlock, CountsBytes, CountsAtMost};
 
 use rm_types::Area;
-
-/// A count with one more. At its last value it stays.
-pub fn one_more(count: u64) -> u64
-    ensures value { result ≡ raised count 1 }
-    ensures rises { Rises count result }
-    ensures kept { count ≤ result }
-    ensures by_one { count < last_count → result ≡ count + 1 }
-{
-    count.saturating_add(1)
-}
 
 /// How much was read.
 #[derive(Clone, Copy, Debug, PartialEq, Eq)]
@@ -34,7 +23,7 @@ impl Reads {
         ensures at_most { answered ≡ false → CountsAtMost area length self.old.log_bytes self.new.log_bytes }
     {
         match area {
-            Area::Data => self.blocks = one_more(self.blocks),
+            Area::Data => self.blocks = self.blocks.saturating_add(1),
             Area::Log => {
                 let bytes = if answered { length as u64 } else { 0 };
                 self.log_bytes = self.log_bytes.saturating_add(bytes);

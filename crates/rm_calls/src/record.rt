@@ -3,6 +3,7 @@
 ghost use Rattle.std.specs.Prelude.{◌≡◌, [], ◌∷◌};
 ghost use Rattle.rm_calls.specs.Calls.{Read, Wrote, Synced};
 
+use crate::Answer;
 use crate::noted::Noted;
 use rm_types::Area;
 use std::marker::Model;
@@ -39,26 +40,26 @@ impl Record {
 
     /// A read, with the bytes that came.
     #[inline(always)]
-    pub fn read(&mut self, area: Area, at: u64, ok: bool, bytes: &[u8])
-        ensures { self.new.calls ≡ Read area at ok bytes.now ∷ self.old.calls }
+    pub fn read(&mut self, area: Area, at: u64, bytes: &[u8], answer: Answer)
+        ensures { self.new.calls ≡ Read area at bytes.now answer ∷ self.old.calls }
     {
-        self.calls = Noted::of(&(&self.calls, area, at, ok, bytes));
+        self.calls = Noted::of(&(&self.calls, area, at, bytes, answer));
     }
 
-    /// A write of these bytes, with how many were taken.
+    /// A write of these bytes.
     #[inline(always)]
-    pub fn wrote(&mut self, area: Area, at: u64, bytes: &[u8], ok: bool, count: usize)
-        ensures { self.new.calls ≡ Wrote area at bytes.now ok count ∷ self.old.calls }
+    pub fn wrote(&mut self, area: Area, at: u64, bytes: &[u8], answer: Answer)
+        ensures { self.new.calls ≡ Wrote area at bytes.now answer ∷ self.old.calls }
     {
-        self.calls = Noted::of(&(&self.calls, area, at, bytes, ok, count));
+        self.calls = Noted::of(&(&self.calls, area, at, bytes, answer));
     }
 
     /// A sync.
     #[inline(always)]
-    pub fn synced(&mut self, area: Area, ok: bool)
-        ensures { self.new.calls ≡ Synced area ok ∷ self.old.calls }
+    pub fn synced(&mut self, area: Area, answer: Answer)
+        ensures { self.new.calls ≡ Synced area answer ∷ self.old.calls }
     {
-        self.calls = Noted::of(&(&self.calls, area, ok));
+        self.calls = Noted::of(&(&self.calls, area, answer));
     }
 }
 

@@ -1,8 +1,9 @@
-//! rm_files over real files, and over a reader and a writer that fail.
+//! Volumes over real files, and a reader and a writer that fail.
 
 ghost use Rattle.std.specs.Prelude.{◌≤◌, IfOk};
 
-use rm_files::{FileVolume, Input, Output};
+use rm_calls::{Modelled, Unknown};
+use rm_files::{Host, Input, Output};
 use rm_outside::{Failed, Sink, Source, Volume};
 use rm_types::{Area, BLOCK_SIZE};
 use std::io::{self, ErrorKind, Read, Write};
@@ -28,6 +29,14 @@ fn cleared(rt: &HostRuntime, name: &str) -> Result<String, Fail> {
     Ok(String::from_str(rt.alloc(), folder.as_str())?)
 }
 
+/// A volume over the files of that folder.
+fn volume_in<'r>(
+    rt: &'r HostRuntime,
+    folder: &str,
+) -> Result<Modelled<Host<&'r HostRuntime>, Unknown>, Fail> {
+    Ok(Host::volume(rt.alloc(), rt, folder, Unknown)?)
+}
+
 /// How many bytes a file has.
 fn length_of(rt: &HostRuntime, folder: &str, file: &str) -> Result<u64, Fail> {
     let path = [folder, file].concat(rt.alloc())?;
@@ -39,7 +48,7 @@ fn a_second_volume_reads_what_the_first_wrote(rt: HostRuntime) -> Result<(), Fai
     let folder = cleared(&rt, "rm_files_kept")?;
     let folder = folder.as_str();
     fs::create_dir(&rt, folder)?;
-    let mut volume = FileVolume::new(rt.alloc(), &rt, folder)?;
+    let mut volume = volume_in(&rt, folder)?;
     // Before the first call there is no file.
     fs::remove_dir(&rt, folder)?;
     fs::create_dir(&rt, folder)?;
@@ -49,7 +58,7 @@ fn a_second_volume_reads_what_the_first_wrote(rt: HostRuntime) -> Result<(), Fai
         assert_eq!(rt; length_of(&rt, folder, file)?, 2 * BLOCK, "{file}");
     }
     drop(volume);
-    let mut volume = FileVolume::new(rt.alloc(), &rt, folder)?;
+    let mut volume = volume_in(&rt, folder)?;
     for (area, file, byte) in FILES {
         // The first block was not written, and the third is past the end.
         for (at, due) in [(0, 0), (BLOCK, byte), (2 * BLOCK, 0)] {
@@ -61,10 +70,28 @@ fn a_second_volume_reads_what_the_first_wrote(rt: HostRuntime) -> Result<(), Fai
     let mut tail = [b'?'; 4];
     assert_eq!(rt; volume.read(Area::Log, 2 * BLOCK - 2, &mut tail), Ok(()));
     assert_eq!(rt; tail, [b'l', b'l', 0, 0]);
-    assert_eq!(rt;
-        (volume.data_reads(), volume.log_reads()),
-        (3, 3 * BLOCK + 4)
-    );
+    fs::remove_dir_all(&rt, folder)?;
+    Ok(())
+}
+
+#[test]
+fn a_volume_has_one_owner(rt: HostRuntime) -> Result<(), Fail> {
+    let folder = cleared(&rt, "rm_files_owned")?;
+    let folder = folder.as_str();
+    fs::create_dir(&rt, folder)?;
+    let mut first = volume_in(&rt, folder)?;
+    assert_eq!(rt; first.write(Area::Log, 0, b"kept"), Ok(()));
+    let mut second = volume_in(&rt, folder)?;
+    let mut bytes = [0; 4];
+    for (area, file, _) in FILES {
+        assert_eq!(rt; second.sync(area), Err(Failed), "{file}");
+    }
+    assert_eq!(rt; second.read(Area::Log, 0, &mut bytes), Err(Failed));
+    assert_eq!(rt; second.write(Area::Log, 0, b"lost"), Err(Failed));
+    drop(first);
+    let mut third = volume_in(&rt, folder)?;
+    assert_eq!(rt; third.read(Area::Log, 0, &mut bytes), Ok(()));
+    assert_eq!(rt; bytes, *b"kept");
     fs::remove_dir_all(&rt, folder)?;
     Ok(())
 }
@@ -72,17 +99,17 @@ fn a_second_volume_reads_what_the_first_wrote(rt: HostRuntime) -> Result<(), Fai
 #[test]
 fn without_its_folder_each_call_fails(rt: HostRuntime) -> Result<(), Fail> {
     let folder = cleared(&rt, "rm_files_missing")?;
-    let mut volume = FileVolume::new(rt.alloc(), &rt, folder.as_str())?;
+    let mut volume = volume_in(&rt, folder.as_str())?;
     let mut block = [0; BLOCK_SIZE];
     for (area, file, _) in FILES {
         assert_eq!(rt; volume.read(area, 0, &mut block), Err(Failed), "{file}");
-        assert_eq!(rt; volume.write(area, 0, &block), Err(Failed), "{file}");
-        assert_eq!(rt; volume.faults(area), 2, "{file}");
     }
-    // The folder is there for a later call, but an area whose sync failed is lost.
-    assert_eq!(rt; volume.sync(Area::Copy), Err(Failed));
-    fs::create_dir(&rt, folder.as_str())?;
     assert_eq!(rt; volume.write(Area::Copy, 0, &block), Err(Failed));
+    assert_eq!(rt; volume.sync(Area::Log), Err(Failed));
+    // The folder is there for a later call, but an area of which a write or a sync failed is lost.
+    fs::create_dir(&rt, folder.as_str())?;
+    assert_eq!(rt; volume.read(Area::Copy, 0, &mut block), Err(Failed));
+    assert_eq!(rt; volume.read(Area::Log, 0, &mut block), Err(Failed));
     assert_eq!(rt; volume.read(Area::Space, 0, &mut block), Ok(()));
     fs::remove_dir_all(&rt, folder.as_str())?;
     Ok(())

@@ -1,13 +1,14 @@
-//! The five files of a volume, in one folder.
+//! The five files of a volume in one folder: which process has them, and that what they give is what the disk has.
 
-ghost use Rattle.std.specs.Prelude.{◌<◌, ◌+◌, ◌^◌, length};
+ghost use Rattle.std.specs.Prelude.{◌≡◌, true, OnOk};
 
-use crate::pieces::{read_all, write_all};
+use rm_outside::PerArea;
 use rm_types::Area;
 use std::alloc::{AllocError, Global};
-use std::fs::{File, OpenOptions};
+use std::fs::{self, File, OpenOptions};
 use std::io::{self, ErrorKind};
 use std::os::fd::AsRawFd;
+use std::os::unix::fs::MetadataExt;
 use std::rt::Files;
 
 /// The last descriptor of a standard stream.
@@ -23,115 +24,140 @@ struct Folder<R: Drop> {
 }
 
 impl<R: Files<File = File> + Drop> Folder<R> {
-    /// Opens a file, and makes it where it is not there. Once this is `Ok` the file stays in its folder
-    /// through a crash.
+    /// Opens a regular file that has this name alone, and makes it where it is not there.
     fn open(&mut self, path: &str) -> io::Result<File> {
-        let file = self.open_or_make(path)?;
-        if !self.is_synced {
-            File::open(&self.rt, self.path.as_str())?.sync_all()?;
-            self.is_synced = true;
-        }
-        // What is meant for a standard stream that was closed must not land in a file of the volume.
-        if file.as_raw_fd() <= LAST_STREAM {
-            return file.try_clone();
+        let file = off_streams(self.open_or_make(path)?)?;
+        let (found, named) = (file.metadata()?, fs::symlink_metadata(&self.rt, path)?);
+        let is_named = found.dev() == named.dev() && found.ino() == named.ino();
+        if !is_named || !found.is_file() || found.nlink() != 1 {
+            return Err(ErrorKind::Unsupported.into());
         }
         Ok(file)
     }
 
+    /// What is there but is no regular file is not opened, since that alone may do something.
     fn open_or_make(&mut self, path: &str) -> io::Result<File> {
-        match OpenOptions::new()
-            .read(true)
-            .write(true)
-            .open(&self.rt, path)
-        {
+        match fs::symlink_metadata(&self.rt, path) {
+            Ok(named) if named.is_file() => OpenOptions::new()
+                .read(true)
+                .write(true)
+                .open(&self.rt, path),
+            Ok(_) => Err(ErrorKind::Unsupported.into()),
             Err(error) if error.kind() == ErrorKind::NotFound => {
                 self.is_synced = false;
                 File::create_new(&self.rt, path)
             }
-            answer => answer,
+            Err(error) => Err(error),
         }
     }
-}
 
-/// A file, once it is open.
-#[derive(Drop)]
-struct Entry {
-    path: String,
-    file: Option<File>,
-}
-
-impl Entry {
-    fn new(alloc: Global, folder: &str, name: &str) -> Result<Entry, AllocError> {
-        let path = [folder, "/", name].concat(alloc)?;
-        Ok(Entry { path, file: None })
-    }
-
-    /// The open file, which is opened here where it is not open yet.
-    fn open<R: Files<File = File> + Drop>(
-        &mut self,
-        folder: &mut Folder<R>,
-    ) -> io::Result<&mut File> {
-        match &mut self.file {
-            Some(file) => Ok(file),
-            vacant => Ok(vacant.insert(folder.open(self.path.as_str())?)),
+    /// Makes the names of its files durable.
+    fn sync(&mut self) -> io::Result<()>
+        ensures { OnOk result (self.new.is_synced ≡ true) }
+    {
+        if !self.is_synced {
+            File::open(&self.rt, self.path.as_str())?.sync_all()?;
+            self.is_synced = true;
         }
+        Ok(())
     }
 }
 
-/// The files of the five areas.
+/// The same file under a descriptor that is no standard stream's: what is meant for one that was closed must not land in a
+/// file of the volume.
+fn off_streams(file: File) -> io::Result<File> {
+    if file.as_raw_fd() <= LAST_STREAM {
+        return file.try_clone();
+    }
+    Ok(file)
+}
+
+/// Makes the disk hold what the file gives, and has the system forget its own copies: after a sync that failed in an
+/// earlier process these may have what the disk has not.
+fn settle(file: &File) -> io::Result<()> {
+    file.sync_all()?;
+    match libc::posix_fadvise(file.as_raw_fd(), 0, 0, libc::POSIX_FADV_DONTNEED) {
+        0 => Ok(()),
+        error => Err(io::Error::from_raw_os_error(error)),
+    }
+}
+
+/// The files of the five areas. Each is opened and settled at the first call in its area, and before all else `master` is
+/// opened and locked; the lock lasts until this value is dropped.
 #[derive(Drop)]
 pub struct AreaFiles<R: Drop> {
     folder: Folder<R>,
-    master: Entry,
-    log: Entry,
-    data: Entry,
-    space: Entry,
-    copy: Entry,
+    paths: PerArea<String>,
+    files: PerArea<Option<File>>,
+    is_locked: bool,
 }
 
 impl<R: Files<File = File> + Drop> AreaFiles<R> {
     /// The files of that folder, of which none is open. It makes no call of the system.
     pub fn new(alloc: Global, rt: R, folder: &str) -> Result<AreaFiles<R>, AllocError> {
         Ok(AreaFiles {
-            master: Entry::new(alloc, folder, "master")?,
-            log: Entry::new(alloc, folder, "log")?,
-            data: Entry::new(alloc, folder, "data")?,
-            space: Entry::new(alloc, folder, "space")?,
-            copy: Entry::new(alloc, folder, "copy")?,
+            paths: PerArea {
+                master: [folder, "/master"].concat(alloc)?,
+                log: [folder, "/log"].concat(alloc)?,
+                data: [folder, "/data"].concat(alloc)?,
+                space: [folder, "/space"].concat(alloc)?,
+                copy: [folder, "/copy"].concat(alloc)?,
+            },
+            files: PerArea {
+                master: None,
+                log: None,
+                data: None,
+                space: None,
+                copy: None,
+            },
             folder: Folder {
                 rt,
                 path: String::from_str(alloc, folder)?,
                 is_synced: false,
             },
+            is_locked: false,
         })
     }
 
-    fn open(&mut self, area: Area) -> io::Result<&mut File> {
-        match area {
-            Area::Master => self.master.open(&mut self.folder),
-            Area::Log => self.log.open(&mut self.folder),
-            Area::Data => self.data.open(&mut self.folder),
-            Area::Space => self.space.open(&mut self.folder),
-            Area::Copy => self.copy.open(&mut self.folder),
+    /// Opens and locks `master`, where that was not done. It fails where another process has the lock.
+    fn lock(&mut self) -> io::Result<()>
+        ensures { OnOk result (self.new.is_locked ≡ true) }
+    {
+        if !self.is_locked {
+            let master = self.folder.open(self.paths.master.as_str())?;
+            master.try_lock()?;
+            settle(&master)?;
+            self.files.master = Some(master);
+            self.is_locked = true;
         }
+        Ok(())
     }
 
-    /// Fills the buffer with the bytes at an offset of the area's file. Past its end they are 0.
-    pub fn read(&mut self, area: Area, at: u64, into: &mut [u8]) -> io::Result<()>
-        requires { at + length into.old < 2 ^ 64 }
+    /// Opens the area's file, where that was not done.
+    fn open(&mut self, area: Area) -> io::Result<()>
+        ensures locked { OnOk result (self.new.is_locked ≡ true) }
+        ensures synced { OnOk result (self.new.folder.is_synced ≡ true) }
     {
-        read_all(self.open(area)?, at, into)
+        self.lock()?;
+        if self.files.get(area).is_none() {
+            let file = self.folder.open(self.paths.get(area).as_str())?;
+            settle(&file)?;
+            self.files.set(area, Some(file));
+        }
+        self.folder.sync()
     }
 
-    /// Writes all the bytes at an offset of the area's file.
-    pub fn write(&mut self, area: Area, at: u64, from: &[u8]) -> io::Result<()>
-        requires { at + length from.now < 2 ^ 64 }
+    /// The open file.
+    fn get(&self, area: Area) -> io::Result<&File>
+        requires locked { self.now.is_locked ≡ true }
+        requires synced { self.now.folder.is_synced ≡ true }
     {
-        write_all(self.open(area)?, at, from)
+        self.files.get(area).as_ref().ok_or(ErrorKind::NotFound.into())
     }
 
-    /// Makes the area's file durable, its bytes and its length.
-    pub fn sync(&mut self, area: Area) -> io::Result<()> {
-        self.open(area)?.sync_data()
+    /// The area's file. Once this is `Ok` no other process has the volume, and the file's name stays through a crash.
+    pub fn file(&mut self, area: Area) -> io::Result<&File> {
+        self.open(area)?;
+        self.get(area)
     }
 }

@@ -1,16 +1,13 @@
-//! The program's own outside: a folder of five files as a volume, a reader as a source, a writer as a sink.
+//! The program's own outside: a folder of five files, a reader as a source, a writer as a sink.
 //!
-//! Each counts its failures: a call that fails raises the count of its area by one, and no other. A file
-//! is opened at the first call in its area and never before, and an area whose sync failed fails from
-//! then on, since the system may have dropped what was to be synced. A call that a signal interrupted is
-//! made again. What a file, a terminal or a pipe holds no proof can say, so they model nothing.
+//! [`Host`] makes each call on the files and notes it with its answer; the volume over them is rm_calls' `Modelled`. One
+//! process at a time has a volume: `master` is locked before anything is read. The streams count their failures, and a
+//! call of theirs that a signal interrupted is made again.
 #![tactic(auto)]
 
-mod counts;
 mod files;
-mod pieces;
+mod host;
 mod streams;
-mod volume;
 
+pub use host::Host;
 pub use streams::{Input, Output};
-pub use volume::FileVolume;

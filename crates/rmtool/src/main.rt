@@ -1,12 +1,16 @@
 //! `rmtool`, the record manager's program: a command's words, a script on standard input, and what the
 //! command prints on standard output.
 //!
-//! The program is [`run_command`] of rm_command, whose contract says what is printed and why. `main` only
-//! hands it the real words, volume, source and sink.
+//! The program is [`run_over_files`], whose contract says what is printed and why, and what a crash leaves in the files:
+//! it is `run_command` of rm_command over real ones. `main` only hands it the real words, folder, source and sink.
 #![tactic(auto)]
 
-use rm_command::{Status, run_command, write_status};
-use rm_files::{FileVolume, Input, Output};
+mod over_files;
+
+use over_files::run_over_files;
+use rm_calls::Unknown;
+use rm_command::{Status, write_status};
+use rm_files::{Input, Output};
 use std::io::ErrorKind;
 use std::process::ExitCode;
 use std::{env, io};
@@ -33,16 +37,19 @@ fn main(rt: HostRuntime) -> ExitCode {
         // A word that is no text is in no command's form, and nor is no word.
         Err(_) => Vec::new(rt.alloc()),
     };
-    let Ok(mut volume) = FileVolume::new(rt.alloc(), &rt, FOLDER) else {
-        return ExitCode::from(write_status(Status::NoMemory, &mut out).number());
-    };
     let mut script = Input::new(rt.stdin());
-    let status = run_command(
+    let done = run_over_files(
         rt.alloc(),
+        &rt,
+        FOLDER,
+        Unknown,
         words.as_slice(),
-        &mut volume,
         &mut script,
         &mut out,
     );
+    let status = match done {
+        Ok((status, _)) => status,
+        Err(_) => write_status(Status::NoMemory, &mut out),
+    };
     ExitCode::from(status.number())
 }

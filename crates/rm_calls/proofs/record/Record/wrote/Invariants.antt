@@ -4,4 +4,4 @@ use Rattle.rm_calls.proofs.record.Record.wrote.Given as goal
 
 -- what is passed is the list so far, and then the parameters in their order
 abbrev pub ghost-of : goal.ghost-of
-ghost-of a = Wrote a._from.now.1 a._from.now.2 a._from.now.3.now a._from.now.4 a._from.now.5 ∷ a._from.now.0.now
+ghost-of a = Wrote a._from.now.1 a._from.now.2 a._from.now.3.now a._from.now.4 ∷ a._from.now.0.now

@@ -2,7 +2,8 @@
 use Rattle.std.proofs.Common.{inl, inr, ℕ, List, [], ◌∷◌, length, arith}
 use Rattle.rm_outside.specs.Images.{Image}
 use Rattle.rm_outside.specs.Laws as laws
-use Rattle.rm_calls.specs.Calls.{Call, events, IsHonest, held, MayLeave, left_since}
+use Rattle.rm_calls.specs.Calls.{Call}
+use Rattle.rm_calls.specs.Replay.{events, IsHonest, held, MayLeave, left_since}
 
 pub counts_now : (start : Image) (calls : List Call) (t : ℕ) (c : Image) → MayLeave start calls c → left_since start calls t c
 unfolding left_since
