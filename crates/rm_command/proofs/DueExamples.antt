@@ -1,5 +1,5 @@
 -- The definitions of what is due, on examples.
-use Rattle.std.proofs.Common.{◌≡◌, true, ℕ, ◌≤◌, List, [], ◌∷◌, get_or, length, codes, decimal, Some, None, refl, sym, ap, subst, arith, lit≤}
+use Rattle.std.proofs.Common.{◌≡◌, ℕ, ◌≤◌, List, [], ◌∷◌, get_or, length, codes, decimal, Some, None, refl, sym, ap, subst, arith, lit≤}
 use Rattle.std.specs.Fmt.{digits}
 use Rattle.std.proofs.lemmas.Fmt.{decimal_is_IsNumeral, decimal_injective, first_decimal}
 use Rattle.std.proofs.lemmas.Str.Parse.{digit_at}

@@ -33,7 +33,7 @@ pub record ChangesBy (step : Image → Image → Type 0) (old new : Facts) : Typ
 pub record CreateDue (pages : ℕ) (old new : Facts) (answer : Status) (text : List ℕ) : Type 0 where
   pub texts : CreateText pages old new answer text
   pub images : AllLeft old new (λ c. old.may_leave c ⊎ (IsUnmade c ⊎ IsFresh pages c))
-  pub made : new.models_content → IsMade old.content → AllLeft old new old.may_leave
+  pub made : IsMade old.content → AllLeft old new old.may_leave
   pub untouched : answer ≡ status.NoMemory → AllLeft old new old.may_leave
   -- area Copy stays, and area Log but for the byte of its first gate
   pub keeps : ChangesBy KeepsCopyAndLog old new

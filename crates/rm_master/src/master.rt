@@ -68,6 +68,7 @@ impl Master {
         ensures not_made { OnOk result (V.models_content volume.new → IsUnmade (V.content volume.old)) }
         ensures synced { OnOk result (IsAllSynced V.Volume volume.new) }
         ensures made { V.models_content volume.new → IsMade (V.content volume.old) → OnlyReads V.Volume master_area volume.old volume.new }
+        ensures made_any_moment { IsMade (V.content volume.old) → AtEachMoment V.Volume volume.old volume.new (V.may_leave volume.old) }
         ensures any_moment { AtEachMoment V.Volume volume.old volume.new (λ c. V.may_leave volume.old c ⊎ (IsUnmade c ⊎ IsFresh pages c)) }
         ensures writes { Writes V.Volume KeepsCopyAndLog volume.old volume.new }
         ensures cause { IfErr result (ExplainsCreate V.Volume volume.old volume.new) }

@@ -11,7 +11,7 @@ returns-clause-owes g c =
     (record {
       texts = (made.not_made, made.fresh, rw c.new-text.ensures.items at c.in-Ok.ensures.ok);
       images = made.any_moment;
-      made = λ models is. (made.made models is).0.time;
+      made = made.made_any_moment;
       untouched = λ memory. let differ = ap number_of memory in absurd (omega arith);
       keeps = record { content = made.writes.0.content; images = made.writes.0.time };
     })
