@@ -1,5 +1,5 @@
 -- What one call does to the images, and several one after another, whatever the files held.
-use Rattle.std.proofs.Common.{IsTrue, ◌≡◌, ◌⊎◌, inl, inr, ⊎_elim, ℕ, ◌≤◌, ◌&&◌, Bool, true, false, List, ◌∷◌, length, refl, sym, ◌∙◌, ap, subst, arith, if◌then◌else◌}
+use Rattle.std.proofs.Common.{IsTrue, ◌≡◌, inl, inr, ⊎_elim, ℕ, ◌&&◌, Bool, true, false, List, ◌∷◌, length, refl, sym, ◌∙◌, ap, subst, arith, if◌then◌else◌}
 use Rattle.rm_types.specs.declared.areas.Area.{Area}
 use Rattle.rm_outside.specs.Areas.{is_same}
 use Rattle.rm_outside.specs.Images.{Image, Torn, Shows}
@@ -11,8 +11,8 @@ use Rattle.rm_calls.specs.declared.answer.Answer.{Answer}
 use Rattle.rm_calls.specs.declared.answer.Answer.TheVariants.{Done, Interrupted, Failed}
 use Rattle.rm_calls.specs.Answers.{is_whole}
 use Rattle.rm_calls.specs.Calls.{Call, Read, Wrote, Synced, area_of, has_fault, is_fault, is_lost, is_loss}
-use Rattle.rm_calls.specs.Replay.{events, Holds, IsHonest, held, MayLeave, left_since}
-use Rattle.rm_calls.specs.ReplayLaws.{counts_now}
+use Rattle.rm_calls.specs.Replay.{events, Holds, IsHonest, held, MayLeave}
+use Rattle.rm_outside.specs.Since.{counts_now, elapses, stands}
 use Rattle.rm_calls.specs.Steps.{Passes, KeepsFaults, Reads, Writes, Syncs}
 
 -- ---- the marks that a call leaves in the record
@@ -26,7 +26,7 @@ pub fault_now : (call : Call) (rest : List Call) → is_fault call ≡ true → 
 unfolding has_fault
 fault_now call rest is =
     subst (λ (b : Bool). IsTrue (if b && is_same (area_of call) (area_of call) then true else has_fault rest (area_of call))) (sym is)
-        (subst (λ (b : Bool). IsTrue (if b then true else has_fault rest (area_of call))) (sym (same-refl (area_of call))) refl)
+    (subst (λ (b : Bool). IsTrue (if b then true else has_fault rest (area_of call))) (sym (same-refl (area_of call))) refl)
 
 pub no_loss : (call : Call) (rest : List Call) (area : Area) → is_loss call ≡ false → is_lost (call ∷ rest) area ≡ is_lost rest area
 unfolding is_lost
@@ -42,22 +42,6 @@ loss_elsewhere call rest area differs =
 
 -- ---- reads
 
--- time goes on by one call, where each image that might be left before may be left still
-pub elapses : (start : Image) (call : Call) (rest : List Call) → Passes start rest (call ∷ rest)
-unfolding left_since
-elapses start call rest = record {
-  later = omega arith;
-  each = λ t c le left. since t c left;
-  keeps = λ t c le left. inr (le, left);
-}
-  where
-    since : (t : ℕ) (c : Image) → MayLeave start (call ∷ rest) c ⊎ ((t ≤ length rest) × left_since start rest t c) → left_since start rest t c ⊎ MayLeave start (call ∷ rest) c
-    since t c (inl now) = inr now
-    since t c (inr (late, left)) = inl left
-
-stands : (start : Image) (calls : List Call) → Passes start calls calls
-stands start calls = record { later = omega arith; each = λ t c le left. inl left; keeps = λ t c le left. left }
-
 -- reads do nothing to the content
 reads : {start : Image} {old new : List Call} → events new ≡ events old → (IsHonest start new → IsHonest start old)
     → Passes start old new → KeepsFaults old new → ((area : Area) → is_lost new area ≡ is_lost old area) → Reads start old new
@@ -72,13 +56,13 @@ reads {start} {old} {new} same honest time faults lost = record {
 }
 
 pub reads_none : (start : Image) (calls : List Call) → Reads start calls calls
-reads_none start calls = reads refl (λ h. h) (stands start calls) (λ area has. has) (λ area. refl)
+reads_none start calls = reads refl (λ h. h) (stands (MayLeave start) calls) (λ area has. has) (λ area. refl)
 
 pub reads_once : (start : Image) (area : Area) (at : ℕ) (bytes : List ℕ) (answer : Answer) (rest : List Call) → Reads start rest (Read area at bytes answer ∷ rest)
 unfolding events IsHonest
 reads_once start area at bytes answer rest =
     let call = Read area at bytes answer in
-    reads refl (only answer) (elapses start call rest) (fault_stays call rest) (λ other. no_loss call rest other refl)
+    reads refl (only answer) (elapses (MayLeave start) call rest) (fault_stays call rest) (λ other. no_loss call rest other refl)
   where
     only : (answer : Answer) → IsHonest start (Read area at bytes answer ∷ rest) → IsHonest start rest
     only (Done count) honest = honest.0
@@ -90,7 +74,7 @@ pub reads_then : {start : Image} {old mid new : List Call} → Reads start old m
 reads_then {start} {old} {mid} {new} one other = reads (other.same ∙ one.same) (λ h. one.honest (other.honest h)) (record {
   later = omega (arith, one.time.later, other.time.later);
   each = λ t c le left. ⊎_elim
-      (λ past. ⊎_elim (λ before. inl before) (λ now. inl (counts_now start old t c (one.images.each c now))) (one.time.each t c le past))
+      (λ past. ⊎_elim (λ before. inl before) (λ now. inl (counts_now (MayLeave start) old t c (one.images.each c now))) (one.time.each t c le past))
       (λ now. inr now)
       (other.time.each t c (omega (arith, le, one.time.later)) left);
   keeps = λ t c le left. other.time.keeps t c (omega (arith, le, one.time.later)) (one.time.keeps t c le left);
@@ -129,7 +113,7 @@ writes_once start area at bytes answer rest = record {
   content = write_torn start area at bytes answer rest;
   images = write_follows start area at bytes answer rest;
   still = λ c now. write_still start area at bytes answer rest c now;
-  time = elapses start (Wrote area at bytes answer) rest;
+  time = elapses (MayLeave start) (Wrote area at bytes answer) rest;
   faults = fault_stays (Wrote area at bytes answer) rest;
 }
 
@@ -139,7 +123,7 @@ writes_none start area at bytes calls = record {
   content = torn_same area at bytes (held start calls);
   images = record { each = λ c now. (c, now, torn_same area at bytes c) };
   still = λ c now. now;
-  time = stands start calls;
+  time = stands (MayLeave start) calls;
   faults = λ area has. has;
 }
 
@@ -205,7 +189,7 @@ syncs_once start area answer rest = record {
   honest = λ h. h;
   content = sync_held start area answer rest;
   images = sync_adds_none start area answer rest;
-  time = elapses start (Synced area answer) rest;
+  time = elapses (MayLeave start) (Synced area answer) rest;
   faults = fault_stays (Synced area answer) rest;
 }
 
@@ -214,6 +198,6 @@ syncs_none start calls = record {
   honest = λ h. h;
   content = refl;
   images = record { each = λ c now. now };
-  time = stands start calls;
+  time = stands (MayLeave start) calls;
   faults = λ area has. has;
 }

@@ -1,6 +1,5 @@
 pub mod Answers
 pub mod Calls
 pub mod Replay
-pub mod ReplayLaws
 pub mod Honest
 pub mod Steps

@@ -1,8 +1,9 @@
 -- What honest files answer, what a volume over them holds, and what a crash may leave of it: all by going through the
 -- record of the calls, from what the files held when they were opened.
-use Rattle.std.specs.Prelude.{◌≡◌, ◌⊎◌, ℕ, ◌≤◌, false, List, [], ◌∷◌, length, if◌then◌else◌}
+use Rattle.std.specs.Prelude.{◌≡◌, ℕ, ◌≤◌, false, List, [], ◌∷◌, length, if◌then◌else◌}
 use Rattle.rm_types.specs.declared.areas.Area.{Area}
 use Rattle.rm_outside.specs.Images.{Bytes, Image, Shows}
+use Rattle.rm_outside.specs.Since as since
 use Rattle.rm_outside.specs.Calls.{Facts}
 use Rattle.rm_outside.specs.History.{Event, Write, Sync, content, may_leave}
 use Rattle.rm_calls.specs.declared.answer.Answer.TheVariants.{Done, Interrupted, Failed}
@@ -45,9 +46,8 @@ abbrev pub MayLeave : Image → List Call → Image → Type 0
 MayLeave start calls c = IsHonest start calls × may_leave start (events calls) c
 
 -- a crash at a moment from t on might have left it; the moment is the number of calls
-unfoldable pub left_since : Image → List Call → ℕ → Image → Type 0
-left_since start [] t c = MayLeave start [] c
-left_since start (call ∷ rest) t c = MayLeave start (call ∷ rest) c ⊎ ((t ≤ length rest) × left_since start rest t c)
+abbrev pub left_since : Image → List Call → ℕ → Image → Type 0
+left_since start = since.left_since (MayLeave start)
 
 -- the facts of a volume over files that held `start`, after these calls and with these counts
 abbrev pub facts_over : Image → List Call → (Area → ℕ) → ℕ → ℕ → Facts

@@ -55,8 +55,9 @@ impl<C: Calls, S: Start> Modelled<C, S> {
 
 impl<C: Calls, S: Start> Volume for Modelled<C, S> {
     ghost use Rattle.std.specs.Prelude.{[]};
-    ghost use Rattle.rm_calls.specs.Replay.{IsHonest, held, MayLeave, left_since};
-    ghost use Rattle.rm_calls.specs.ReplayLaws as laws;
+    ghost use Rattle.rm_calls.specs.Replay.{IsHonest, events, held, MayLeave, left_since};
+    ghost use Rattle.rm_outside.specs.Laws as laws;
+    ghost use Rattle.rm_outside.specs.Since as since;
 
     ghost models_content = { λ v. IsHonest S.Start.image (C.Calls.history v.calls) };
 
@@ -76,13 +77,13 @@ impl<C: Calls, S: Start> Volume for Modelled<C, S> {
 
     ghost reference = { λ _. [] };
 
-    ghost counts_now = { λ v t c _ now. laws.counts_now S.Start.image (C.Calls.history v.calls) t c now };
+    ghost counts_now = { λ v t c _ now. since.counts_now (MayLeave S.Start.image) (C.Calls.history v.calls) t c now };
 
-    ghost only_now = { λ v c left. laws.only_now S.Start.image (C.Calls.history v.calls) c left };
+    ghost only_now = { λ v c left. since.only_now (MayLeave S.Start.image) (C.Calls.history v.calls) c left };
 
     ghost only_modelled = { λ _ _ left. left.0 };
 
-    ghost content_may_stay = { λ v honest. laws.content_may_stay S.Start.image (C.Calls.history v.calls) honest };
+    ghost content_may_stay = { λ v honest. (honest, laws.content_may_stay S.Start.image (events (C.Calls.history v.calls))) };
 
     fn read(&mut self, area: Area, at: u64, into: &mut [u8]) -> Result<(), Failed> {
         let length = into.len();

@@ -152,7 +152,10 @@ impl<R: Files<File = File> + Drop> AreaFiles<R> {
         requires locked { self.now.is_locked ≡ true }
         requires synced { self.now.folder.is_synced ≡ true }
     {
-        self.files.get(area).as_ref().ok_or(ErrorKind::NotFound.into())
+        self.files
+            .get(area)
+            .as_ref()
+            .ok_or(ErrorKind::NotFound.into())
     }
 
     /// The area's file. Once this is `Ok` no other process has the volume, and the file's name stays through a crash.

@@ -9,7 +9,8 @@ use Rattle.rm_outside.specs.Counts.{CountsAtMost}
 use Rattle.rm_outside.specs.PutLaws.{torn_same}
 use Rattle.rm_outside.specs.Laws.{torn_by}
 use Rattle.rm_outside.specs.History.{Event, Write, Sync, content, may_leave, left_since}
-use Rattle.rm_outside.proofs.HistoryLaws.{shows_written, write_follows, lost_follows, content-sync, sync_durable, sync_adds_none, elapses, stands}
+use Rattle.rm_outside.proofs.HistoryLaws.{shows_written, write_follows, lost_follows, content-sync, sync_durable, sync_adds_none}
+use Rattle.rm_outside.specs.Since.{elapses, stands}
 
 -- the facts of a write
 pub record Written (area : Area) (at : ℕ) (bytes : List ℕ) (base_old : Image) (old : List Event) (base_new : Image) (new : List Event) : Type 0 where
@@ -28,14 +29,14 @@ noted : (area : Area) (at : ℕ) (bytes : List ℕ) (took : Bool) (base : Image)
 noted area at bytes took base old = record {
   content = torn_by base area at bytes took old;
   crash = write_follows base area at bytes took old;
-  time = elapses base (Write area at bytes took) old;
+  time = elapses (may_leave base) (Write area at bytes took) old;
 }
 
 lost : (area : Area) (at : ℕ) (bytes : List ℕ) (base : Image) (old : List Event) → Written area at bytes base old base old
 lost area at bytes base old = record {
   content = torn_same area at bytes (content base old);
   crash = lost_follows base area at bytes old;
-  time = stands base old;
+  time = stands (may_leave base) old;
 }
 
 carry : (P : Image → List Event → Type 0) (base base_new : Image) (events new : List Event) → base_new ≡ base → new ≡ events → P base events → P base_new new
@@ -58,7 +59,7 @@ synced area base base_new old new (Ok x) same ok fine = carry (Durable area base
   durable = sync_durable base area old;
   content = content-sync base area old;
   crash = sync_adds_none base area old;
-  time = elapses base (Sync area) old;
+  time = elapses (may_leave base) (Sync area) old;
 })
 
 -- a read that failed counts no byte

@@ -116,7 +116,8 @@ impl MemVolume {
 }
 
 impl Volume for MemVolume {
-    ghost use Rattle.rm_outside.specs.Laws as laws;
+    ghost use Rattle.rm_outside.specs.Laws.{content_may_stay};
+    ghost use Rattle.rm_outside.specs.Since as since;
 
     ghost models_content = { λ _. Unit {0} };
 
@@ -136,13 +137,13 @@ impl Volume for MemVolume {
 
     ghost reference = { λ _. [] };
 
-    ghost counts_now = { λ volume t c _ now. laws.counts_now (base_of volume) (events_of volume) t c now };
+    ghost counts_now = { λ volume t c _ now. since.counts_now (may_leave (base_of volume)) (events_of volume) t c now };
 
-    ghost only_now = { λ volume c left. laws.only_now (base_of volume) (events_of volume) c left };
+    ghost only_now = { λ volume c left. since.only_now (may_leave (base_of volume)) (events_of volume) c left };
 
     ghost only_modelled = { λ _ _ _. tt };
 
-    ghost content_may_stay = { λ volume _. laws.content_may_stay (base_of volume) (events_of volume) };
+    ghost content_may_stay = { λ volume _. content_may_stay (base_of volume) (events_of volume) };
 
     fn read(&mut self, area: Area, at: u64, into: &mut [u8]) -> Result<(), Failed>
         requires { CanReach area at (length into.old) }

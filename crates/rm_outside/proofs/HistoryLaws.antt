@@ -1,10 +1,10 @@
 -- What the laws of a volume ask, of what was done to it.
-use Rattle.std.proofs.Common.{◌≡◌, ◌⊎◌, inl, inr, ℕ, ◌≤◌, Bool, true, false, List, ◌∷◌, length, refl, arith}
+use Rattle.std.proofs.Common.{◌≡◌, ℕ, Bool, true, false, List, ◌∷◌, refl}
 use Rattle.rm_types.specs.declared.areas.Area.{Area}
 use Rattle.rm_outside.specs.Images.{Image, Torn, Shows}
-use Rattle.rm_outside.specs.Moments.{AddsNone, Follows, IsDurable, Elapses}
+use Rattle.rm_outside.specs.Moments.{AddsNone, Follows, IsDurable}
 use Rattle.rm_outside.specs.Puts.{put}
-use Rattle.rm_outside.specs.History.{Event, Write, Sync, content, may_leave, left_since}
+use Rattle.rm_outside.specs.History.{Event, Write, Sync, content, may_leave}
 use Rattle.rm_outside.specs.PutLaws.{torn_same, put_shows}
 
 -- a write
@@ -31,22 +31,6 @@ sync_durable base area rest = record { each = λ c (left, same). same }
 pub sync_adds_none : (base : Image) (area : Area) (rest : List Event) → AddsNone (may_leave base rest) (may_leave base (Sync area ∷ rest))
 unfolding may_leave
 sync_adds_none base area rest = record { each = λ c (left, same). left }
-
--- time goes on by one event, or stands
-pub elapses : (base : Image) (event : Event) (rest : List Event) → Elapses (length rest) (length (event ∷ rest)) (left_since base rest) (left_since base (event ∷ rest)) (may_leave base (event ∷ rest))
-unfolding left_since
-elapses base event rest = record {
-  later = omega arith;
-  each = λ t c le left. since t c left;
-  keeps = λ t c le left. inr (le, left);
-}
-  where
-    since : (t : ℕ) (c : Image) → may_leave base (event ∷ rest) c ⊎ ((t ≤ length rest) × left_since base rest t c) → left_since base rest t c ⊎ may_leave base (event ∷ rest) c
-    since t c (inl now) = inr now
-    since t c (inr (late, left)) = inl left
-
-pub stands : (base : Image) (events : List Event) → Elapses (length events) (length events) (left_since base events) (left_since base events) (may_leave base events)
-stands base events = record { later = omega arith; each = λ t c le left. inl left; keeps = λ t c le left. left }
 
 -- the content after a write
 pub content-took : (base : Image) (area : Area) (at : ℕ) (bytes : List ℕ) (rest : List Event) → content base (Write area at bytes true ∷ rest) ≡ put (content base rest) area at bytes

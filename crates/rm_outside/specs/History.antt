@@ -1,8 +1,9 @@
 -- What was done to a volume, newest first; what a read then gives, and what a crash may leave.
-use Rattle.std.specs.Prelude.{◌≡◌, ◌⊎◌, ℕ, ◌≤◌, Bool, List, [], ◌∷◌, length, if◌then◌else◌}
+use Rattle.std.specs.Prelude.{◌≡◌, ℕ, Bool, List, [], ◌∷◌, if◌then◌else◌}
 use Rattle.rm_types.specs.declared.areas.Area.{Area}
 use Rattle.rm_outside.specs.Images.{Image, Torn}
 use Rattle.rm_outside.specs.Puts.{put}
+use Rattle.rm_outside.specs.Since as since
 
 -- A write, with whether it took: one that failed did not. A sync that was answered Ok.
 pub data Event : Type 0 where
@@ -22,6 +23,5 @@ may_leave base (Write area at bytes took ∷ rest) c = (d : Image) × may_leave 
 may_leave base (Sync area ∷ rest) c = may_leave base rest c × (c area ≡ content base rest area)
 
 -- a crash at a moment from t on might have left it; the moment is the number of events
-unfoldable pub left_since : Image → List Event → ℕ → Image → Type 0
-left_since base [] t c = may_leave base [] c
-left_since base (event ∷ rest) t c = may_leave base (event ∷ rest) c ⊎ ((t ≤ length rest) × left_since base rest t c)
+abbrev pub left_since : Image → List Event → ℕ → Image → Type 0
+left_since base = since.left_since (may_leave base)

@@ -1,20 +1,9 @@
 -- The laws of a volume, of what was done to it.
-use Rattle.std.proofs.Common.{inl, inr, ℕ, Bool, true, false, List, [], ◌∷◌, length, refl, arith}
+use Rattle.std.proofs.Common.{ℕ, Bool, true, false, List, [], ◌∷◌, refl}
 use Rattle.rm_types.specs.declared.areas.Area.{Area}
 use Rattle.rm_outside.specs.Images.{Image, Torn}
-use Rattle.rm_outside.specs.History.{Event, Write, Sync, content, may_leave, left_since}
+use Rattle.rm_outside.specs.History.{Event, Write, Sync, content, may_leave}
 use Rattle.rm_outside.specs.PutLaws.{torn_same, torn_put}
-
-pub counts_now : (base : Image) (events : List Event) (t : ℕ) (c : Image) → may_leave base events c → left_since base events t c
-unfolding left_since
-counts_now base [] t c now = now
-counts_now base (event ∷ rest) t c now = inl now
-
-pub only_now : (base : Image) (events : List Event) (c : Image) → left_since base events (length events) c → may_leave base events c
-unfolding left_since
-only_now base [] c left = left
-only_now base (event ∷ rest) c (inl now) = now
-only_now base (event ∷ rest) c (inr (late, left)) = absurd (omega (arith, late))
 
 pub torn_by : (base : Image) (area : Area) (at : ℕ) (bytes : List ℕ) (took : Bool) (rest : List Event) → Torn area at bytes (content base rest) (content base (Write area at bytes took ∷ rest))
 unfolding content

@@ -4,6 +4,7 @@ pub mod Areas
 pub mod PerArea
 pub mod Images
 pub mod Moments
+pub mod Since
 pub mod Counts
 pub mod Calls
 pub mod Puts

@@ -14,9 +14,9 @@ loop-preserved g c =
 pub returns-then-not-is_interrupted-clause-puts : goal.returns-then-not-is_interrupted-clause-puts
 returns-then-not-is_interrupted-clause-puts g c =
     subst (λ done. Puts g.S.Start.image c.args.area c.args.at c.args.from.now (g.C.Calls.history c.args.calls.now) (g.C.Calls.history c.write_some-answer.new.self) done) (sym c.is_whole.ensures)
-        (puts c.loop.invariant.writes c.loop.invariant.lost c.write_some-answer.result c.write_some-answer.ensures.noted)
+    (puts c.loop.invariant.writes c.loop.invariant.lost c.write_some-answer.result c.write_some-answer.ensures.noted)
 
 pub returns-clause-puts : goal.returns-clause-puts
 returns-clause-puts g c =
     subst (λ done. Puts g.S.Start.image c.args.area c.args.at c.args.from.now (g.C.Calls.history c.args.calls.now) (g.C.Calls.history c.write_some.new.self) done) (sym c.is_whole-2.ensures)
-        (puts c.loop.invariant.writes c.loop.invariant.lost c.write_some.result c.write_some.ensures.noted)
+    (puts c.loop.invariant.writes c.loop.invariant.lost c.write_some.result c.write_some.ensures.noted)
