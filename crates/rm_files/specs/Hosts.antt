@@ -1,5 +1,5 @@
 -- A volume over real files: the record of the calls on them, and how often each area has failed.
-use Rattle.std.specs.Prelude.{ℕ, List, []}
+use Rattle.std.specs.Prelude.{ℕ, List, [], string_bytes}
 use Rattle.rm_types.specs.declared.areas.Area.{Area}
 use Rattle.rm_outside.specs.Images.{Image}
 use Rattle.rm_outside.specs.Calls.{Facts}
@@ -14,6 +14,10 @@ use Rattle.rm_files.specs.declared.host.Host.{Host}
 -- the calls so far with their answers, the newest first
 abbrev pub calls_of : {R S : Type 0} {c : calls.Ghosts (Host R)} {s : start.Ghosts S} → Modelled (Host R) S c s → List Call
 calls_of volume = volume.calls.noted.calls
+
+-- the path of its folder
+abbrev pub folder_of : {R S : Type 0} {c : calls.Ghosts (Host R)} {s : start.Ghosts S} → Modelled (Host R) S c s → List ℕ
+folder_of volume = string_bytes volume.calls.files.folder.path
 
 -- how often the area has failed
 abbrev pub faults_in : {R S : Type 0} {c : calls.Ghosts (Host R)} {s : start.Ghosts S} → Modelled (Host R) S c s → Area → ℕ

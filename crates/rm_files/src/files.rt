@@ -1,6 +1,6 @@
 //! The five files of a volume in one folder: which process has them, and that what they give is what the disk has.
 
-ghost use Rattle.std.specs.Prelude.{◌≡◌, true, OnOk};
+ghost use Rattle.std.specs.Prelude.{◌≡◌, true, string_bytes, IfOk, OnOk};
 
 use rm_outside::PerArea;
 use rm_types::Area;
@@ -94,7 +94,9 @@ pub struct AreaFiles<R: Drop> {
 
 impl<R: Files<File = File> + Drop> AreaFiles<R> {
     /// The files of that folder, of which none is open. It makes no call of the system.
-    pub fn new(alloc: Global, rt: R, folder: &str) -> Result<AreaFiles<R>, AllocError> {
+    pub fn new(alloc: Global, rt: R, folder: &str) -> Result<AreaFiles<R>, AllocError>
+        ensures { IfOk result (λ files. string_bytes files.folder.path ≡ folder.now) }
+    {
         Ok(AreaFiles {
             paths: PerArea {
                 master: [folder, "/master"].concat(alloc)?,

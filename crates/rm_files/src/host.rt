@@ -21,7 +21,7 @@ pub struct Host<R: Drop> {
 }
 
 impl<R: Files<File = File> + Drop> Host<R> {
-    ghost use Rattle.rm_files.specs.Hosts.{calls_of, faults_in};
+    ghost use Rattle.rm_files.specs.Hosts.{calls_of, faults_in, folder_of};
 
     /// A volume over the folder at that path, `.` for the current one, whose files hold `S` when they are opened. It makes
     /// no call of the system. The value of `S` is used up, so that code over any `S` makes one volume.
@@ -31,6 +31,7 @@ impl<R: Files<File = File> + Drop> Host<R> {
         folder: &str,
         _start: S,
     ) -> Result<Modelled<Host<R>, S>, AllocError>
+        ensures folder { IfOk result (λ volume. folder_of volume ≡ folder.now) }
         ensures fresh { IfOk result (λ volume. calls_of volume ≡ []) }
         ensures faults { IfOk result (λ volume. faults_in volume ≡ (λ _. 0)) }
         ensures reads { IfOk result (λ volume. (volume.reads.blocks ≡ 0) × (volume.reads.log_bytes ≡ 0)) }
