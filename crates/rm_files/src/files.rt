@@ -1,4 +1,4 @@
-//! The five files of a volume in one folder: which process has them, and that what they give is what the disk has.
+//! The five files of a volume in one folder: which process has them, and that what they give is synced.
 
 ghost use Rattle.std.specs.Prelude.{◌≡◌, true, string_bytes, IfOk, OnOk};
 
@@ -72,17 +72,7 @@ fn off_streams(file: File) -> io::Result<File> {
     Ok(file)
 }
 
-/// Makes the disk hold what the file gives, and has the system forget its own copies: after a sync that failed in an
-/// earlier process these may have what the disk has not.
-fn settle(file: &File) -> io::Result<()> {
-    file.sync_all()?;
-    match libc::posix_fadvise(file.as_raw_fd(), 0, 0, libc::POSIX_FADV_DONTNEED) {
-        0 => Ok(()),
-        error => Err(io::Error::from_raw_os_error(error)),
-    }
-}
-
-/// The files of the five areas. Each is opened and settled at the first call in its area, and before all else `master` is
+/// The files of the five areas. Each is opened and synced at the first call in its area, and before all else `master` is
 /// opened and locked; the lock lasts until this value is dropped.
 #[derive(Drop)]
 pub struct AreaFiles<R: Drop> {
@@ -128,7 +118,7 @@ impl<R: Files<File = File> + Drop> AreaFiles<R> {
         if !self.is_locked {
             let master = self.folder.open(self.paths.master.as_str())?;
             master.try_lock()?;
-            settle(&master)?;
+            master.sync_all()?;
             self.files.master = Some(master);
             self.is_locked = true;
         }
@@ -143,7 +133,7 @@ impl<R: Files<File = File> + Drop> AreaFiles<R> {
         self.lock()?;
         if self.files.get(area).is_none() {
             let file = self.folder.open(self.paths.get(area).as_str())?;
-            settle(&file)?;
+            file.sync_all()?;
             self.files.set(area, Some(file));
         }
         self.folder.sync()
