@@ -1,5 +1,6 @@
-//! Five real files. Each method makes one call of the system, and then notes it with its answer. This file is what a
-//! reader has to trust: that a method makes the call that it notes, of that area's file, no proof can say.
+//! Five real files. Each method makes one call on a file, and then notes it with its answer. This module is what a reader
+//! has to trust: that a method makes the call that it notes, on that area's file, no proof can say. A sync that a signal
+//! interrupted is made again by std, before it answers.
 
 ghost use Rattle.std.specs.Prelude.{◌≡◌, ◌≤◌, [], length, IfOk};
 ghost use Rattle.rm_types.specs.declared.areas.Area.{Area};
