@@ -24,7 +24,9 @@ pub struct Modelled<C: Calls, S: Start> {
     faults: PerArea<u64>,
     lost: PerArea<bool>,
     reads: Reads,
+    // An area that is not marked as lost is not, and one that is has a call that was not done in full.
     pub ghost known: { (area : Area) → IsKnown (of_area lost area) (C.Calls.history calls) area },
+    // So has an area of which a fault was counted.
     pub ghost blamed: { (area : Area) → 0 < of_area faults area → IsTrue (has_fault (C.Calls.history calls) area) },
 }
 
