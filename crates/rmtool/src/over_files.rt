@@ -45,6 +45,7 @@ pub fn run_over_files<R: Files<File = File> + Drop, F: Start, S: Source, K: Sink
         → ((area : Areas) → HasFailed (first_facts F.image) (facts_in F.image done.1) area → ⊥)
         → EndsRight command (S.left script.old) (first_facts F.image) (facts_in F.image done.1) done.0)) }
     ensures to_end { IfOk result (λ done. done.0 ≡ status.Done → HasScript (map string_bytes words.now) → IsReadToEnd (S.left script.old) (S.left script.new)) }
+    ensures unread { (HasScript (map string_bytes words.now) → ⊥) → script.new ≡ script.old }
 
     // An area that has failed has a call in the record that was not done in full.
     ensures blamed { IfOk result (λ done. (area : Areas) → HasFailed (first_facts F.image) (facts_in F.image done.1) area → IsTrue (has_fault (calls_of done.1) area)) }
