@@ -2,7 +2,8 @@
 use Rattle.std.proofs.Common.{◌≡◌, ℕ, ◌+◌, ◌<◌, ◌≤◌, ◌^◌, List, sym, ap, ◌∙◌, arith}
 use Rattle.rm_history.specs.Acts.{Change, History}
 use Rattle.rm_history.specs.Pending.{without, all_pending}
-use Rattle.rm_history.specs.Needs.{on_page, need_for, need_of, sum_below}
+use Rattle.rm_model.specs.Sums.{sum_below}
+use Rattle.rm_history.specs.Needs.{on_page, need_for, need_of}
 use Rattle.rm_history.specs.Pending.{of_txn}
 use Rattle.rm_audit.specs.Parts.{need_in}
 use Rattle.rm_history.proofs.NeedSums.{sum_below-same, sum_below-one, sum_below-more}

@@ -5,7 +5,8 @@ use Rattle.rm_types.specs.declared.places.Place.{Place}
 use Rattle.rm_history.specs.Acts.{Act, Change, Undo, Entry, Finish, History, changes, undoes, enters, commits, ends, marks, lsn_of, newest_lsn}
 use Rattle.rm_history.specs.Acts.{Mark, Listing, lists}
 use Rattle.rm_model.specs.Pages.{slot_at}
-use Rattle.rm_history.specs.Contents.{page_of, format_after, category_of, entry_of}
+use Rattle.rm_model.specs.Categories.{category_of}
+use Rattle.rm_history.specs.Contents.{page_of, format_after, entry_of}
 use Rattle.rm_history.specs.Pending.{pending_of, last_of}
 use Rattle.rm_history.specs.Transactions.{IsFinished, HasRecord, HasChange}
 use Rattle.rm_history.specs.Needs.{need_of, Fits}

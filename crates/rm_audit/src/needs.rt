@@ -6,7 +6,8 @@ ghost use Rattle.rm_types.specs.declared.slots.TheConstants.{CAPACITY};
 ghost use Rattle.rm_model.specs.Pages.{used as used_by};
 ghost use Rattle.rm_history.specs.Acts.{Change as Changes, acts_of};
 ghost use Rattle.rm_history.specs.Contents.{page_of};
-ghost use Rattle.rm_history.specs.Needs.{need_of, sum_below};
+ghost use Rattle.rm_model.specs.Sums.{sum_below};
+ghost use Rattle.rm_history.specs.Needs.{need_of};
 ghost use Rattle.rm_audit.specs.Parts.{need_in, IsLed};
 ghost use Rattle.rm_audit.specs.NeedMaps.{need_at, HasNeeds};
 

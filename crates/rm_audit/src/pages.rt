@@ -3,7 +3,8 @@
 ghost use Rattle.std.specs.Prelude.{◌≡◌, ◌∷◌, IfOk, OnOk};
 ghost use Rattle.rm_model.specs.Pages.{used as used_by};
 ghost use Rattle.rm_history.specs.Acts.{History, act_of, acts_of};
-ghost use Rattle.rm_history.specs.Contents.{page_of, version_of, category_of, entry_of};
+ghost use Rattle.rm_model.specs.Categories.{category_of};
+ghost use Rattle.rm_history.specs.Contents.{page_of, version_of, entry_of};
 ghost use Rattle.rm_history.specs.Legal.{category_with as category_with_slot};
 
 use crate::slots::{bytes_in, copy_of, set};

@@ -5,7 +5,8 @@ use Rattle.rm_types.specs.declared.formats.Format.{Format}
 use Rattle.rm_types.specs.declared.numbers.Rid.{Rid}
 use Rattle.rm_model.specs.Pages.{set_slot}
 use Rattle.rm_history.specs.Acts.{Change, Undo, Entry, Finish, History, changes, undoes, enters, ends}
-use Rattle.rm_history.specs.Contents.{page_of, format_after, category_of, entry_of}
+use Rattle.rm_model.specs.Categories.{category_of}
+use Rattle.rm_history.specs.Contents.{page_of, format_after, entry_of}
 use Rattle.rm_history.specs.Pending.{pending_of}
 use Rattle.rm_history.specs.Needs.{on_page}
 use Rattle.rm_history.specs.Rules.{MayUndo, MayEnter, MayEnd}

@@ -8,7 +8,8 @@ use Rattle.rm_model.proofs.Slots.{used-set_slot}
 use Rattle.rm_history.specs.Acts.{Change, Undo, Finish, History, changes, undoes, commits}
 use Rattle.rm_history.specs.Contents.{page_of}
 use Rattle.rm_history.specs.Pending.{older, pending_of}
-use Rattle.rm_history.specs.Needs.{on_page, need_for, need_of, sum_below, FitsOn, Fits}
+use Rattle.rm_model.specs.Sums.{sum_below}
+use Rattle.rm_history.specs.Needs.{on_page, need_for, need_of, FitsOn, Fits}
 use Rattle.rm_history.proofs.PendingSteps.{pending-change, pending-change_other, pending-undo, pending-undo_other}
 
 -- ---- sums

@@ -8,7 +8,8 @@ use Rattle.rm_model.specs.Object.{Rows}
 use Rattle.rm_model.proofs.Slots.{length-set_slot}
 use Rattle.rm_history.specs.Acts.{Change, Undo, History, undoes, enters, ends, newest_lsn}
 use Rattle.rm_model.specs.Pages.{slot_at}
-use Rattle.rm_history.specs.Contents.{slot_of, page_of, entry_of, category_of}
+use Rattle.rm_model.specs.Categories.{category_of}
+use Rattle.rm_history.specs.Contents.{slot_of, page_of, entry_of}
 use Rattle.rm_history.specs.Pending.{pending_of, of_txn, all_pending}
 use Rattle.rm_history.specs.Transactions.{IsFinished, HasRecord}
 use Rattle.rm_history.specs.Rows.{rows_of_log, settled_of}

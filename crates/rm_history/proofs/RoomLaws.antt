@@ -12,7 +12,8 @@ use Rattle.rm_history.specs.Acts.{Change, History, changes, undoes, enters, comm
 use Rattle.rm_history.specs.Contents.{page_of}
 use Rattle.rm_history.specs.Pending.{older, pending_of}
 use Rattle.rm_history.specs.Transactions.{greatest_txn}
-use Rattle.rm_history.specs.Needs.{on_page, need_for, need_of, sum_below, FitsOn, Fits}
+use Rattle.rm_model.specs.Sums.{sum_below}
+use Rattle.rm_history.specs.Needs.{on_page, need_for, need_of, FitsOn, Fits}
 use Rattle.rm_history.specs.Room.{others_need, growth_for}
 use Rattle.rm_history.specs.RoomLaws.{FittingIsRoom}
 use Rattle.rm_history.proofs.NeedSums.{sum_below-same, sum_below-one, sum_below-more, need_of-change}

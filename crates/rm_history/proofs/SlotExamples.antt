@@ -1,13 +1,10 @@
--- The definitions of which slot a row is put in, and on which pages it is looked for, on examples.
+-- The definition of which slot a row is put in, on examples.
 use Rattle.std.proofs.Common.{◌≡◌, ℕ, ◌<◌, [], ◌∷◌, refl, arith, lit<}
-use Rattle.rm_types.specs.declared.formats.Format.TheVariants.{One}
 use Rattle.rm_types.specs.declared.slots.Slot.TheVariants.{Vacant}
-use Rattle.rm_model.specs.Pages.{used, slot_at}
-use Rattle.rm_history.specs.Contents.{page_of, category_of}
-use Rattle.rm_history.specs.Room.{growth_for, IsExcluded, IsSlotForRow}
+use Rattle.rm_model.specs.Pages.{slot_at}
+use Rattle.rm_history.specs.Contents.{page_of}
+use Rattle.rm_history.specs.Room.{growth_for, IsSlotForRow}
 use Rattle.rm_history.proofs.ExampleLogs.{row, deleted}
-
--- ---- slots
 
 -- where slot 0 is held by the lock of its row's deleter, another's row is put in slot 1
 beside_the_lock : IsSlotForRow (λ number. number ≡ 0) (page_of deleted 0) 1
@@ -43,22 +40,3 @@ after_a_row = record { vacant = refl; free = λ held. held; least = λ lower bel
 -- a directory grows by the entries up to the new slot's, and by none for a slot that it has
 growths : (growth_for 1 1 ≡ 4) × (growth_for 1 3 ≡ 12) × (growth_for 2 0 ≡ 0)
 growths = (refl, refl, refl)
-
--- ---- categories
-
--- 1,016 bytes of a row and an entry of the directory are 1,020 bytes in use
-in_use : used (row 1016 ∷ []) ≡ 1020
-in_use = refl
-
--- pages with 1,019, 1,020, 3,059, 3,060 and 4,080 bytes in use
-categories : (category_of One (row 1015 ∷ []) ≡ 0) × (category_of One (row 1016 ∷ []) ≡ 1) × (category_of One (row 3055 ∷ []) ≡ 2)
-    × (category_of One (row 3056 ∷ []) ≡ 3) × (category_of One (row 4076 ∷ []) ≡ 3)
-categories = (refl, refl, refl, refl, refl)
-
--- a page with the entry 3 is looked at for a row of 1,020 bytes: 3,060 + 1,020 = 4,080
-looked_at : IsExcluded One 3 1020 → ⊥
-looked_at excluded = omega (arith, excluded)
-
--- and not for one byte more
-passed_over : IsExcluded One 3 1021
-passed_over = lit< tt

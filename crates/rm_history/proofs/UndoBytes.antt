@@ -5,7 +5,8 @@ use Rattle.rm_types.specs.declared.formats.Format.{Format}
 use Rattle.rm_types.specs.declared.slots.Slot.{Slot}
 use Rattle.rm_model.specs.Pages.{set_slot}
 use Rattle.rm_history.specs.Acts.{Change, History, undoes, enters, ends, newest_lsn}
-use Rattle.rm_history.specs.Contents.{page_of, category_of, entry_of}
+use Rattle.rm_model.specs.Categories.{category_of}
+use Rattle.rm_history.specs.Contents.{page_of, entry_of}
 use Rattle.rm_history.specs.Pending.{pending_of, of_txn, without, all_pending}
 use Rattle.rm_history.specs.Rules.{IsInOrder}
 use Rattle.rm_history.specs.Losers.{with_number, without_number, losers_of, IsAmong}

@@ -1,11 +1,10 @@
 -- What a history says of pages and of the inventory.
-use Rattle.std.specs.Prelude.{ℕ, ◌==◌, ◌/◌, if◌then◌else◌, List, [], ◌∷◌, min, Option, Some, None}
+use Rattle.std.specs.Prelude.{ℕ, ◌==◌, ◌/◌, if◌then◌else◌, List, [], ◌∷◌, Option, Some, None}
 use Rattle.rm_types.specs.declared.slots.Slot.{Slot}
 use Rattle.rm_types.specs.declared.slots.Slot.TheVariants.{Vacant, Row}
 use Rattle.rm_types.specs.declared.formats.Format.{Format}
 use Rattle.rm_types.specs.declared.numbers.TheConstants.{BLOCK_PAGES}
-use Rattle.rm_types.specs.Formats.{category_bytes, greatest_category}
-use Rattle.rm_model.specs.Pages.{used, set_slot}
+use Rattle.rm_model.specs.Pages.{set_slot}
 use Rattle.rm_history.specs.Acts.{Act, History, changes, undoes, enters, commits, ends, marks}
 
 -- what a slot holds where there is such a row, or none
@@ -43,10 +42,6 @@ version_after (marks m) page version = version
 abbrev pub version_of : History → ℕ → ℕ
 version_of [] page = 0
 version_of (act ∷ before) page = version_after act page (version_of before page)
-
--- how full a page with these slots is, in a format's steps
-abbrev pub category_of : Format → List Slot → ℕ
-category_of format slots = min (greatest_category format) (used slots / category_bytes format)
 
 -- the category that the inventory has for the page after a record; and after all, 0 before the first
 abbrev pub entry_after : Act → ℕ → ℕ → ℕ

@@ -5,7 +5,8 @@ use Rattle.rm_types.specs.declared.numbers.Rid.{Rid}
 use Rattle.rm_types.specs.declared.slots.Slot.{Slot}
 use Rattle.rm_model.specs.Pages.{set_slot}
 use Rattle.rm_history.specs.Acts.{Act, Change, Entry, History, changes, undoes, enters, commits, ends, marks}
-use Rattle.rm_history.specs.Contents.{page_of, format_after, category_of, entry_of}
+use Rattle.rm_model.specs.Categories.{category_of}
+use Rattle.rm_history.specs.Contents.{page_of, format_after, entry_of}
 use Rattle.rm_history.specs.Pending.{pending_of}
 use Rattle.rm_history.specs.Needs.{on_page}
 use Rattle.rm_history.specs.Rules.{IsLast, Follows}

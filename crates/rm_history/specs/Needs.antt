@@ -1,7 +1,8 @@
 -- The bytes that a transaction's undo may need on a page.
-use Rattle.std.specs.Prelude.{ℕ, zero, suc, ◌+◌, ◌-◌, ◌≤◌, ◌==◌, if◌then◌else◌, List, [], ◌∷◌}
+use Rattle.std.specs.Prelude.{ℕ, ◌+◌, ◌-◌, ◌≤◌, ◌==◌, if◌then◌else◌, List, [], ◌∷◌}
 use Rattle.rm_types.specs.declared.slots.TheConstants.{CAPACITY}
 use Rattle.rm_model.specs.Pages.{used, row_length}
+use Rattle.rm_model.specs.Sums.{sum_below}
 use Rattle.rm_history.specs.Acts.{Change, History}
 use Rattle.rm_history.specs.Contents.{page_of}
 use Rattle.rm_history.specs.Pending.{pending_of}
@@ -20,11 +21,6 @@ need_for (newest ∷ before) = (need_for before + row_length newest.before) - ro
 -- what a transaction's undo needs on a page
 abbrev pub need_of : History → ℕ → ℕ → ℕ
 need_of history txn page = need_for (on_page page (pending_of history txn))
-
--- the sum of f at the numbers below n
-abbrev pub sum_below : (ℕ → ℕ) → ℕ → ℕ
-sum_below f zero = 0
-sum_below f (suc n) = f n + sum_below f n
 
 -- A page has room for what it holds and for what all transactions' undo needs there.
 abbrev pub FitsOn : History → ℕ → Type 0

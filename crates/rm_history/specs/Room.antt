@@ -1,15 +1,14 @@
 -- Which row has room on which page, and in which slot it is put.
 use Rattle.std.specs.Prelude.{◌≡◌, ℕ, ◌+◌, ◌-◌, ◌*◌, ◌≤◌, ◌<◌, ◌==◌, if◌then◌else◌, List, max, length}
-use Rattle.rm_types.specs.declared.formats.Format.{Format}
 use Rattle.rm_types.specs.declared.slots.Slot.{Slot}
 use Rattle.rm_types.specs.declared.slots.Slot.TheVariants.{Vacant}
 use Rattle.rm_types.specs.declared.slots.TheConstants.{CAPACITY, SLOT_ENTRY}
-use Rattle.rm_types.specs.Formats.{category_bytes}
 use Rattle.rm_model.specs.Pages.{used, slot_at}
+use Rattle.rm_model.specs.Sums.{sum_below}
 use Rattle.rm_history.specs.Acts.{History}
 use Rattle.rm_history.specs.Contents.{page_of}
 use Rattle.rm_history.specs.Transactions.{greatest_txn}
-use Rattle.rm_history.specs.Needs.{need_of, sum_below}
+use Rattle.rm_history.specs.Needs.{need_of}
 
 -- what the undo of all other transactions needs on the page
 abbrev pub others_need : History → ℕ → ℕ → ℕ
@@ -18,10 +17,6 @@ others_need history txn page = sum_below (λ other. if other == txn then 0 else 
 -- the bytes of the page that neither its slots have nor the others' undo needs
 abbrev pub unreserved : History → ℕ → ℕ → ℕ
 unreserved history txn page = CAPACITY - (used (page_of history page) + others_need history txn page)
-
--- by its entry a page is not looked at for a row of `len` bytes
-abbrev pub IsExcluded : Format → ℕ → ℕ → Type 0
-IsExcluded format entry len = CAPACITY < category_bytes format * entry + len
 
 -- The slot for a new row: the least that is vacant or past the directory, and that is not held by another transaction's lock.
 pub record IsSlotForRow (IsHeld : ℕ → Type 0) (slots : List Slot) (number : ℕ) : Type 0 where

@@ -4,7 +4,8 @@ use Rattle.rm_types.specs.declared.formats.Format.{Format}
 use Rattle.rm_types.specs.declared.numbers.Rid.{Rid}
 use Rattle.rm_model.specs.Pages.{row_at}
 use Rattle.rm_history.specs.Acts.{Change, History, undoes, enters, newest_lsn}
-use Rattle.rm_history.specs.Contents.{page_of, format_after, category_of, entry_of}
+use Rattle.rm_model.specs.Categories.{category_of}
+use Rattle.rm_history.specs.Contents.{page_of, format_after, entry_of}
 use Rattle.rm_history.specs.Pending.{pending_of, all_pending}
 use Rattle.rm_history.specs.Transactions.{IsFinished, HasRecord}
 use Rattle.rm_history.specs.Rows.{rows_of_log, settled_of}

@@ -10,10 +10,12 @@ use Rattle.rm_model.specs.Pages.{used}
 use Rattle.rm_record.specs.declared.records.LogRecord.TheVariants.{Insert, Commit, Checkpoint}
 use Rattle.rm_history.specs.Logs.{Batch, IsBatch}
 use Rattle.rm_history.specs.Acts.{Act, Change, Listing, History, lists, changes, commits, marks}
-use Rattle.rm_history.specs.Contents.{page_of, category_of}
+use Rattle.rm_model.specs.Categories.{category_of}
+use Rattle.rm_history.specs.Contents.{page_of}
 use Rattle.rm_history.specs.Pending.{pending_of}
 use Rattle.rm_history.specs.Transactions.{HasRecord, IsFinished}
-use Rattle.rm_history.specs.Needs.{need_of, need_for, on_page, sum_below, Fits}
+use Rattle.rm_model.specs.Sums.{sum_below}
+use Rattle.rm_history.specs.Needs.{need_of, need_for, on_page, Fits}
 use Rattle.rm_history.specs.Legal.{IsLegal}
 use Rattle.rm_history.specs.Batched.{acts_of_batches}
 use Rattle.rm_image.specs.Whole.{IsLogSound}

@@ -6,7 +6,8 @@ use Rattle.rm_model.specs.Pages.{used, row_length}
 use Rattle.rm_history.specs.Acts.{Change, History, changes, undoes, enters, commits, ends, marks}
 use Rattle.rm_history.specs.Contents.{page_of}
 use Rattle.rm_history.specs.Pending.{pending_of}
-use Rattle.rm_history.specs.Needs.{on_page, need_for, need_of, sum_below, Fits}
+use Rattle.rm_model.specs.Sums.{sum_below}
+use Rattle.rm_history.specs.Needs.{on_page, need_for, need_of, Fits}
 use Rattle.rm_history.specs.Rules.{IsInOrder}
 use Rattle.rm_restart.specs.Plain.{IsInsert, ArePlain}
 

@@ -1,5 +1,5 @@
 //! The types that the crates share: numbers, row ids, rows and slots, operations and replies,
-//! places in the log, the areas, the faults and the format of a volume.
+//! places in the log, modes of locks, the areas, the faults and the format of a volume.
 //!
 //! A [`Row`] has at most 4,076 bytes and the numbers of [`Places`] rise, by their types, so no other
 //! crate tests it again.
@@ -9,6 +9,7 @@ mod areas;
 mod faults;
 mod formats;
 mod memory;
+mod modes;
 mod numbers;
 mod operations;
 mod places;
@@ -19,8 +20,10 @@ pub use areas::Area;
 pub use faults::{Fault, StoreFault};
 pub use formats::{CATEGORY_BYTES, Format, MAX_CATEGORY};
 pub use memory::NoMemory;
+pub use modes::Mode;
 pub use numbers::{
-    BLOCK_PAGES, BLOCK_SIZE, Lsn, MAX_BLOCKS, MAX_LOG, MAX_PAGES, MAX_SLOT, Rid, TxnId,
+    BLOCK_PAGES, BLOCK_SIZE, Lsn, MAX_BLOCKS, MAX_LOG, MAX_PAGES, MAX_SESSIONS, MAX_SLOT, Rid,
+    TxnId,
 };
 pub use operations::{Op, Reply};
 pub use places::{MAX_PLACES, Place, Places};

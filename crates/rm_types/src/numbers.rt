@@ -15,6 +15,9 @@ pub const BLOCK_PAGES: u32 = 1_024;
 /// The most blocks that a file's inventory has.
 pub const MAX_BLOCKS: u32 = 16;
 
+/// The most sessions that run at a time. They have the numbers from 1.
+pub const MAX_SESSIONS: u8 = 16;
+
 /// The greatest offset in the log at which a record may end.
 pub const MAX_LOG: u64 = 1 << 48;
 

@@ -2,7 +2,7 @@ use Rattle.std.proofs.Common.{◌≡◌, ℕ, ◌+◌, ◌-◌, ◌<◌, ◌≤�
 use Rattle.std.proofs.lemmas.List.{length-reverse}
 use Rattle.rm_history.specs.Acts.{Change}
 use Rattle.rm_history.specs.Pending.{without}
-use Rattle.rm_history.specs.Needs.{sum_below}
+use Rattle.rm_model.specs.Sums.{sum_below}
 use Rattle.rm_audit.specs.Parts.{need_in, IsLed}
 use Rattle.rm_audit.proofs.Pendings.{length-without_led}
 use Rattle.rm_history.proofs.NeedSums.{sum_below-zero}

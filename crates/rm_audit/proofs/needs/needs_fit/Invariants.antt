@@ -1,5 +1,5 @@
 use Rattle.std.proofs.Common.{◌≡◌, ℕ, ◌+◌, ◌≤◌, ◌^◌, reverse, vec_len}
-use Rattle.rm_history.specs.Needs.{sum_below}
+use Rattle.rm_model.specs.Sums.{sum_below}
 use Rattle.rm_audit.specs.Parts.{need_in}
 use Rattle.rm_audit.proofs.needs.needs_fit.Given as goal
 
