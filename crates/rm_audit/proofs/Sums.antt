@@ -6,7 +6,7 @@ use Rattle.rm_model.specs.Sums.{sum_below}
 use Rattle.rm_history.specs.Needs.{on_page, need_for, need_of}
 use Rattle.rm_history.specs.Pending.{of_txn}
 use Rattle.rm_audit.specs.Parts.{need_in}
-use Rattle.rm_history.proofs.NeedSums.{sum_below-same, sum_below-one, sum_below-more}
+use Rattle.rm_model.proofs.Sums.{sum_below-same, sum_below-one, sum_below-more}
 use Rattle.rm_history.proofs.AllPending.{of_txn-without, of_txn-without_other, pending_of_all}
 
 -- the sum without the changes of a transaction

@@ -16,7 +16,8 @@ use Rattle.rm_model.specs.Sums.{sum_below}
 use Rattle.rm_history.specs.Needs.{on_page, need_for, need_of, FitsOn, Fits}
 use Rattle.rm_history.specs.Room.{others_need, growth_for}
 use Rattle.rm_history.specs.RoomLaws.{FittingIsRoom}
-use Rattle.rm_history.proofs.NeedSums.{sum_below-same, sum_below-one, sum_below-more, need_of-change}
+use Rattle.rm_model.proofs.Sums.{sum_below-same, sum_below-one, sum_below-more}
+use Rattle.rm_history.proofs.NeedSums.{need_of-change}
 use Rattle.rm_history.proofs.NeedSums.{need_of-change_other, pending_on-change, fits_as_before}
 use Rattle.rm_history.proofs.PendingSteps.{if_different}
 

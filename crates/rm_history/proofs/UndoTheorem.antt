@@ -13,7 +13,8 @@ use Rattle.rm_history.specs.Rules.{MayUndo, MayEnter, Follows, IsInOrder}
 use Rattle.rm_history.specs.Legal.{EntriesFollow, IsLegal}
 use Rattle.rm_history.specs.Undoing.{category_after, entry_for, undo_for, Undone}
 use Rattle.rm_history.specs.UndoLaws.{IsUndone, UndoesAreInOrder, NoUndoLacksRoom}
-use Rattle.rm_history.proofs.NeedSums.{sum_below-zero, room_kept, used-inside, pending_of-undo, pending_on-undo, need_of-undo}
+use Rattle.rm_model.proofs.Sums.{sum_below-zero}
+use Rattle.rm_history.proofs.NeedSums.{room_kept, used-inside, pending_of-undo, pending_on-undo, need_of-undo}
 use Rattle.rm_history.proofs.NeedSums.{need_of-undo_other, fits_as_before}
 use Rattle.rm_history.proofs.UndoSteps.{undone_either}
 use Rattle.rm_history.proofs.Following.{entries_follow_undo, entries_follow_entry}

@@ -1,3 +1,4 @@
 pub mod Slots
 pub mod CategoryExamples
 pub mod FileLaws
+pub mod Sums

@@ -5,7 +5,7 @@ use Rattle.rm_history.specs.Pending.{without}
 use Rattle.rm_model.specs.Sums.{sum_below}
 use Rattle.rm_audit.specs.Parts.{need_in, IsLed}
 use Rattle.rm_audit.proofs.Pendings.{length-without_led}
-use Rattle.rm_history.proofs.NeedSums.{sum_below-zero}
+use Rattle.rm_model.proofs.Sums.{sum_below-zero}
 use Rattle.rm_audit.proofs.Sums.{sum_below-without, all_within, not_within}
 use Rattle.rm_audit.proofs.needs.needs_fit.Goals as goal
 
