@@ -1,0 +1,3 @@
+pub mod Savepoints
+pub mod Transactions
+pub mod Tables
