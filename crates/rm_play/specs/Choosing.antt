@@ -1,0 +1,250 @@
+-- The move that a session makes for an operation, as a function of its one free choice: the offset at which the next record may stand, which
+-- is the LSN of its record, or how far the log is durable.
+use Rattle.std.specs.Prelude.{◌<◌, ℕ, zero, suc, ◌+◌, ◌-◌, ◌*◌, ◌^◌, ◌==◌, ◌&&◌, nat_lt, if◌then◌else◌, Bool, true, false, List, [], ◌∷◌, length, min, max, Option, Some, None}
+use Rattle.rm_types.specs.declared.formats.Format.{Format}
+use Rattle.rm_types.specs.declared.numbers.Rid.{Rid}
+use Rattle.rm_types.specs.declared.numbers.TheConstants.{MAX_SLOT}
+use Rattle.rm_types.specs.declared.slots.Slot.{Slot}
+use Rattle.rm_types.specs.declared.slots.Slot.TheVariants as slot
+use Rattle.rm_types.specs.declared.slots.TheConstants.{CAPACITY}
+use Rattle.rm_types.specs.Formats.{category_bytes}
+use Rattle.rm_model.specs.Pages.{used, slot_at}
+use Rattle.rm_model.specs.Categories.{category_of}
+use Rattle.rm_model.specs.Object.{is_same_place}
+use Rattle.rm_history.specs.Acts.{Change, History}
+use Rattle.rm_history.specs.Contents.{page_of, entry_of}
+use Rattle.rm_history.specs.Needs.{need_of}
+use Rattle.rm_history.specs.Pending.{pending_of}
+use Rattle.rm_history.specs.Room.{others_need, unreserved, growth_for}
+use Rattle.rm_history.specs.Undoing.{category_after}
+use Rattle.rm_history.specs.declared.TheConstants.{BATCH_HEADER}
+use Rattle.rm_events.specs.declared.operations.Op.{Op}
+use Rattle.rm_events.specs.declared.operations.Op.TheVariants as ops
+use Rattle.rm_core.specs.Effects.{after}
+use Rattle.rm_play.specs.Choices.{IsMoveFor}
+use Rattle.rm_core.specs.Moves.{Setting, again, log_full, spent, closed, Move, turns, answered, Moves}
+use Rattle.rm_core.specs.Outcomes.{Outcome}
+use Rattle.rm_core.specs.Room.{CHANGE_COST, owed}
+use Rattle.rm_core.specs.Searching.{part_end}
+use Rattle.rm_core.specs.Runs.{Machine, IsRun}
+use Rattle.rm_core.specs.Sizes.{end_of, IsNext}
+use Rattle.rm_core.specs.State.{Savepoint, value_at, Aim, undoes_all, returns, target_of, Stage, idle, seeks, wants, tries, reads, fetches, alters, sets, settles, forces}
+use Rattle.rm_core.specs.State.{finishes, rolls, prepares, compensates, Seat, Grant, State, seat_at}
+use Rattle.rm_core.specs.Turns.{Turn, skip, unname, refuse, begin, scan, scan_last, latch, try, try_last, insert, lock, lock_alone, wait, die, fetch, miss, lack, alter}
+use Rattle.rm_core.specs.Turns.{settled, settle, commit, force, finish, abort, prepared, prepare, compensate, save, no_target, target, back, end}
+
+-- ---- what is looked for
+
+abbrev pub not : Bool → Bool
+not true = false
+not false = true
+
+abbrev pub or : Bool → Bool → Bool
+or true other = true
+or false other = other
+
+abbrev pub nat_le : ℕ → ℕ → Bool
+nat_le a b = nat_lt a (suc b)
+
+abbrev pub is_vacant : Slot → Bool
+is_vacant slot.Vacant = true
+is_vacant (slot.Row row) = false
+
+-- the first of n pages from one on that its entry does not exclude
+abbrev pub first_open : Format → History → ℕ → ℕ → ℕ → Option ℕ
+first_open format history len from zero = None
+first_open format history len from (suc n) =
+    if nat_lt CAPACITY (category_bytes format * entry_of history from + len) then first_open format history len (suc from) n else Some from
+
+-- another transaction has a lock on the row id
+abbrev pub is_held : List Grant → ℕ → Rid → Bool
+is_held [] txn rid = false
+is_held (first ∷ grants) txn rid = or (not (first.txn == txn) && is_same_place first.rid rid) (is_held grants txn rid)
+
+-- the first of n slots of a page from one on that is vacant and not held by another's lock
+abbrev pub first_free : List Grant → ℕ → ℕ → List Slot → ℕ → ℕ → ℕ
+first_free grants txn page slots from zero = from
+first_free grants txn page slots from (suc n) =
+    if is_vacant (slot_at slots from) && not (is_held grants txn (record { page = page; slot = from })) then from else first_free grants txn page slots (suc from) n
+
+abbrev pub slot_for : State → Seat → ℕ → ℕ
+slot_for s seat page = first_free s.grants seat.txn page (page_of s.history page) 0 (length (page_of s.history page) + length s.grants)
+
+-- the least other transaction whose lock refuses one
+abbrev pub blocks_it : Grant → ℕ → Rid → Bool → Bool
+blocks_it grant txn rid alone = not (grant.txn == txn) && (is_same_place grant.rid rid && or alone grant.alone)
+
+abbrev pub least_with : ℕ → Option ℕ → ℕ
+least_with txn None = txn
+least_with txn (Some other) = min txn other
+
+abbrev pub blocker : List Grant → ℕ → Rid → Bool → Option ℕ
+blocker [] txn rid alone = None
+blocker (first ∷ grants) txn rid alone =
+    if blocks_it first txn rid alone then Some (least_with first.txn (blocker grants txn rid alone)) else blocker grants txn rid alone
+
+-- the stage has the page latched, alone and shared; the stage takes a page shared
+abbrev pub latches_it : Stage → ℕ → Bool
+latches_it (tries row on) page = on == page
+latches_it (sets rid new) page = rid.page == page
+latches_it (settles outcome on) page = on == page
+latches_it (prepares aim on) page = on == page
+latches_it (compensates aim on) page = on == page
+latches_it other page = false
+
+abbrev pub looks_at : Stage → ℕ → Bool
+looks_at (fetches rid) page = rid.page == page
+looks_at other page = false
+
+abbrev pub is_reading : Stage → Bool
+is_reading (reads rid) = true
+is_reading other = false
+
+-- the first of n sessions from one on whose latch refuses the session's
+abbrev pub first_barring : State → ℕ → ℕ → ℕ → ℕ → Option ℕ
+first_barring s k page j zero = None
+first_barring s k page j (suc n) =
+    if not (j == k) && or (latches_it (seat_at s.seats j).stage page) (not (is_reading (seat_at s.seats k).stage) && looks_at (seat_at s.seats j).stage page)
+    then Some j else first_barring s k page (suc j) n
+
+abbrev pub row_fits : State → Seat → ℕ → ℕ → ℕ → Bool
+row_fits s seat page number len =
+    nat_le (used (page_of s.history page) + growth_for (length (page_of s.history page)) number
+    + others_need s.history seat.txn page + max len (need_of s.history seat.txn page)) CAPACITY
+
+abbrev pub growth_fits : State → Seat → ℕ → ℕ → Bool
+growth_fits s seat page growth = nat_le (used (page_of s.history page) + others_need s.history seat.txn page + max growth (need_of s.history seat.txn page)) CAPACITY
+
+abbrev pub has_number : {A : Type 0} → List (Savepoint A) → ℕ → Bool
+has_number [] number = false
+has_number (first ∷ points) number = or (first.number == number) (has_number points number)
+
+-- ---- the moves
+
+-- a change, where the log has room for it at this LSN
+abbrev pub if_room : Setting → State → ℕ → ℕ → Turn → Move
+if_room m s k lsn turn =
+    if nat_le (end_of (after m.format s k (seat_at s.seats k) turn).history + CHANGE_COST + owed (after m.format s k (seat_at s.seats k) turn)) m.limit
+    then turns k turn else answered k (log_full lsn)
+
+abbrev pub if_room_to_begin : Setting → State → ℕ → ℕ → Move
+if_room_to_begin m s k lsn =
+    if nat_le (lsn + owed (after m.format s k (seat_at s.seats k) (begin s.next))) m.limit then turns k (begin s.next) else answered k (log_full lsn)
+
+abbrev pub beginning : Setting → State → ℕ → ℕ → Move
+beginning m s k lsn = if s.next == 2 ^ 32 then answered k (spent (2 ^ 32 - 1)) else if_room_to_begin m s k lsn
+
+abbrev pub found_at : ℕ → ℕ → List ℕ → ℕ → Option ℕ → Turn
+found_at pages part row from (Some page) = scan row from page true
+found_at pages part row from None = if part == pages then scan_last row from else scan row from part false
+
+abbrev pub scanning : Setting → State → List ℕ → ℕ → Turn
+scanning m s row from = found_at m.pages (part_end m.pages from) row from (first_open m.format s.history (length row) from (part_end m.pages from - from))
+
+abbrev pub latching : State → ℕ → ℕ → Option ℕ → Move
+latching s k page None = turns k (latch page)
+latching s k page (Some by) = answered k (again by)
+
+abbrev pub latching_at : State → ℕ → ℕ → Move
+latching_at s k page = latching s k page (first_barring s k page 0 (length s.seats))
+
+abbrev pub trying : Setting → State → ℕ → ℕ → List ℕ → ℕ → Move
+trying m s k lsn row page =
+    if row_fits s (seat_at s.seats k) page (slot_for s (seat_at s.seats k) page) (length row)
+    then if_room m s k lsn (insert row (record { page = page; slot = slot_for s (seat_at s.seats k) page }) lsn)
+    else turns k (if page + 1 == m.pages then try_last row page (slot_for s (seat_at s.seats k) page) else try row page (slot_for s (seat_at s.seats k) page))
+
+abbrev pub lock_of : Op → Rid → Turn
+lock_of (ops.Update rid row) place = lock_alone rid (slot.Row row)
+lock_of (ops.Delete rid) place = lock_alone rid slot.Vacant
+lock_of op place = lock place
+
+abbrev pub locking_against : State → Seat → Op → Rid → Bool → Option ℕ → Turn
+locking_against s seat op rid alone None = lock_of op rid
+locking_against s seat op rid alone (Some holder) = if nat_lt seat.txn holder then wait op rid alone holder else die op rid alone holder
+
+abbrev pub locking : Setting → State → Seat → Op → Rid → Bool → Turn
+locking m s seat op rid alone =
+    if nat_lt rid.page m.pages && nat_le rid.slot MAX_SLOT then locking_against s seat op rid alone (blocker s.grants seat.txn rid alone) else refuse op rid
+
+abbrev pub altering_to : Setting → State → ℕ → ℕ → Rid → Slot → Slot → Move
+altering_to m s k lsn rid slot.Vacant new = turns k (miss rid new)
+altering_to m s k lsn rid (slot.Row old) slot.Vacant = if_room m s k lsn (alter rid slot.Vacant lsn)
+altering_to m s k lsn rid (slot.Row old) (slot.Row new) =
+    if growth_fits s (seat_at s.seats k) rid.page (length new - length old) then if_room m s k lsn (alter rid (slot.Row new) lsn)
+    else turns k (lack rid new (unreserved s.history (seat_at s.seats k).txn rid.page))
+
+abbrev pub returning : Seat → ℕ → Turn
+returning seat number = if has_number seat.saves number then target number (value_at 0 seat.saves number) else no_target number
+
+-- the target of a rollback is reached
+abbrev pub reaching : Aim → ℕ → Turn
+reaching (undoes_all outcome) lsn = end outcome lsn
+reaching (returns number at) lsn = back number at
+
+abbrev pub rolling : State → ℕ → ℕ → Aim → List Change → Move
+rolling s k lsn aim [] = turns k (reaching aim lsn)
+rolling s k lsn aim (last ∷ rest) = if nat_lt (target_of aim) last.lsn then latching_at s k last.rid.page else turns k (reaching aim lsn)
+
+abbrev pub preparing : Setting → State → ℕ → Aim → List Change → Turn
+preparing m s lsn aim [] = finish
+preparing m s lsn aim (last ∷ rest) =
+    if entry_of s.history last.rid.page == category_after m.format s.history last then prepared aim last else prepare aim last lsn
+
+abbrev pub compensating : ℕ → Aim → List Change → Turn
+compensating lsn aim [] = finish
+compensating lsn aim (last ∷ rest) = compensate aim last lsn
+
+-- an idle session's, in a transaction
+abbrev pub asking : Setting → State → ℕ → ℕ → Op → Turn
+asking m s k lsn (ops.Insert row) = scanning m s row 0
+asking m s k lsn (ops.Read rid) = locking m s (seat_at s.seats k) (ops.Read rid) rid false
+asking m s k lsn (ops.Update rid row) = locking m s (seat_at s.seats k) (ops.Update rid row) rid true
+asking m s k lsn (ops.Delete rid) = locking m s (seat_at s.seats k) (ops.Delete rid) rid true
+asking m s k lsn (ops.Save number) = save number
+asking m s k lsn (ops.Back number) = returning (seat_at s.seats k) number
+asking m s k lsn ops.Commit = commit lsn
+asking m s k lsn ops.Abort = abort
+asking m s k lsn op = skip op
+
+abbrev pub asked_now : Setting → State → ℕ → ℕ → Op → Move
+asked_now m s k lsn ops.Unbound = turns k unname
+asked_now m s k lsn ops.Begin = if (seat_at s.seats k).txn == 0 then beginning m s k lsn else turns k (skip ops.Begin)
+asked_now m s k lsn op = turns k (if (seat_at s.seats k).txn == 0 then skip op else asking m s k lsn op)
+
+abbrev pub chosen_at : Setting → State → ℕ → ℕ → Op → Stage → Move
+chosen_at m s k lsn op idle = asked_now m s k lsn op
+chosen_at m s k lsn op (seeks row from) = turns k (scanning m s row from)
+chosen_at m s k lsn op (wants row on) = latching_at s k on
+chosen_at m s k lsn op (tries row page) = trying m s k lsn row page
+chosen_at m s k lsn op (reads rid) = latching_at s k rid.page
+chosen_at m s k lsn op (fetches rid) = turns k (fetch rid (slot_at (page_of s.history rid.page) rid.slot))
+chosen_at m s k lsn op (alters rid new) = latching_at s k rid.page
+chosen_at m s k lsn op (sets rid new) = altering_to m s k lsn rid (slot_at (page_of s.history rid.page) rid.slot) new
+chosen_at m s k lsn op (settles outcome page) =
+    turns k (if entry_of s.history page == category_of m.format (page_of s.history page) then settled outcome page else settle outcome page lsn)
+chosen_at m s k lsn op forces = turns k (force lsn)
+chosen_at m s k lsn op finishes = turns k finish
+chosen_at m s k lsn op (rolls aim) = rolling s k lsn aim (pending_of s.history (seat_at s.seats k).txn)
+chosen_at m s k lsn op (prepares aim page) = turns k (preparing m s lsn aim (pending_of s.history (seat_at s.seats k).txn))
+chosen_at m s k lsn op (compensates aim page) = turns k (compensating lsn aim (pending_of s.history (seat_at s.seats k).txn))
+
+abbrev pub chosen : Setting → State → ℕ → ℕ → Op → Move
+chosen m s k lsn op = chosen_at m s k lsn op (seat_at s.seats k).stage
+
+-- what a session's move leaves
+abbrev pub state_after : Setting → State → Move → State
+state_after m s (turns k turn) = after m.format s k (seat_at s.seats k) turn
+state_after m s (answered k (log_full at)) = closed s k
+state_after m s other = s
+
+-- an LSN that the next record may get
+abbrev pub some_next : History → ℕ
+some_next [] = BATCH_HEADER
+some_next history = end_of history
+
+-- It is the session's move for the operation, at each offset at which the next record may stand.
+abbrev pub ChosenIsMove : Type 0
+ChosenIsMove = (m : Machine) (k lsn : ℕ) (op : Op) → IsRun m → k < length m.state.seats → IsNext m.state.history lsn
+    → IsMoveFor m.opening.setting m.state k op (chosen m.opening.setting m.state k lsn op)
+    × Moves m.opening.setting m.state (chosen m.opening.setting m.state k lsn op) (state_after m.opening.setting m.state (chosen m.opening.setting m.state k lsn op))
