@@ -10,7 +10,7 @@ use thiserror::Error;
 pub enum Applied {
     /// The record was applied.
     Changed,
-    /// The page has the record already, or a later one: its LSN is not below the record's.
+    /// The page or the block has the record already, or a later one: its LSN is not below the record's.
     Older,
 }
 

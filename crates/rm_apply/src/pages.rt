@@ -3,9 +3,8 @@
 ghost use Rattle.std.specs.Prelude.{◌≡◌, ℕ, ◌≤◌, IfOk, IfErr, OnOk, OnErr};
 ghost use Rattle.rm_types.specs.declared.slots.Slot.TheVariants as slots;
 ghost use Rattle.rm_model.specs.Pages.{set_slot};
-ghost use Rattle.rm_history.specs.Acts.{act_at};
 ghost use Rattle.rm_apply.specs.declared.answers.ApplyRefused.TheVariants as refused;
-ghost use Rattle.rm_apply.specs.Redo.{CannotHave, ChangesSlot, IsOnPage, Redoes, Refuses};
+ghost use Rattle.rm_apply.specs.Redo.{CannotHave, ChangesPage, ChangesSlot, Redoes, Refuses};
 
 use crate::answers::{Applied, ApplyRefused};
 use rm_page::Page;
@@ -51,7 +50,7 @@ fn clear(page: &mut Page, number: u16, lsn: Lsn) -> Result<(), ApplyRefused>
 /// - [`ApplyRefused::NoMemory`].
 pub fn redo(page: &mut Page, what: &LogRecord, lsn: Lsn) -> Result<Applied, ApplyRefused>
     requires { ChangesSlot what.now }
-    ensures applied { (number : ℕ) → IsOnPage (act_at lsn.0 what.now) number → IfOk result (λ applied. Redoes number page.old what.now lsn applied page.new) }
+    ensures applied { (number : ℕ) → ChangesPage what.now number → IfOk result (λ applied. Redoes number page.old what.now lsn applied page.new) }
     ensures refused { IfErr result (Refuses page.old what.now lsn) }
     ensures err { OnErr result (page.new ≡ page.old) }
 {
