@@ -1,5 +1,6 @@
 -- What a session's stage says of its turns, of the trace and of the log, along a run.
-use Rattle.std.proofs.Common.{◌≡◌, ◌⊎◌, inl, inr, ℕ, suc, ◌+◌, ◌*◌, ◌/◌, ◌<◌, ◌≤◌, Bool, true, false, List, [], ◌∷◌, length, set, Option, Some, None, refl, sym, ap, subst, ◌∙◌, arith}
+use Rattle.std.proofs.Common.{◌≡◌, ◌⊎◌, inl, inr, ℕ, suc, ◌+◌, ◌*◌, ◌/◌, ◌<◌, ◌≤◌, Bool, true, false, List, [], ◌∷◌, length, Option, Some, None}
+use Rattle.std.proofs.Common.{refl, sym, ap, subst, ◌∙◌, arith}
 use Rattle.std.proofs.lemmas.Bool.{cases_eq, cases_lt, eq-eqb, ne_eqb}
 use Rattle.rm_types.specs.declared.formats.Format.{Format}
 use Rattle.rm_types.specs.declared.numbers.TheConstants.{BLOCK_PAGES}
@@ -23,51 +24,47 @@ use Rattle.rm_core.specs.Events.{Event, tried_of, seen_of, outcome_of, txn_of, e
 use Rattle.rm_core.specs.Kept.{Kept}
 use Rattle.rm_core.specs.Logging.{Writes, lsn_in, TellsChange}
 use Rattle.rm_core.specs.May.{Wants, May}
-use Rattle.rm_core.specs.Moves.{closed, MayRest}
+use Rattle.rm_core.specs.Moves.{MayRest}
 use Rattle.rm_core.specs.Orders.{ordered_with, order_of, IsAmong}
-use Rattle.rm_core.specs.Outcomes.{Outcome, inserted, no_space, saw, altered, committed, aborted, died}
+use Rattle.rm_core.specs.Outcomes.{Outcome, no_space, saw, committed}
 use Rattle.rm_core.specs.Runs.{Machine, IsRun}
 use Rattle.rm_core.specs.Searches.{of_session, seens_of, IsHandled, EndsSearch}
 use Rattle.rm_core.specs.Searching.{Scans, part_end}
 use Rattle.rm_core.specs.Sizes.{end_of}
-use Rattle.rm_core.specs.State.{Aim, undoes_all, returns, Stage, idle, seeks, wants, tries, reads, alters, settles, forces, finishes, rolls, prepares, compensates}
-use Rattle.rm_core.specs.State.{Seat, State, seat_at}
+use Rattle.rm_core.specs.State.{Aim, undoes_all, returns, Stage, idle, seeks, wants, tries, reads, alters, settles, forces, finishes, rolls}
+use Rattle.rm_core.specs.State.{prepares, compensates, Seat, State, seat_at}
 use Rattle.rm_core.specs.Turns.{Turn, skip, unname, refuse, scan, scan_last, latch, try, try_last, insert, wait, fetch, alter, settled, settle, commit, force}
 use Rattle.rm_core.specs.Turns.{finish, prepared, prepare, compensate, end}
-use Rattle.rm_core.proofs.Along.{append_event, rest_event, kept_along}
+use Rattle.rm_core.proofs.Along.{setting_of, seat_of, append_event, rest_event, kept_along, each_seat}
 use Rattle.rm_core.proofs.Acts.{Elsewhere, elsewhere-none, elsewhere-change, elsewhere-undo, elsewhere-enter, elsewhere-commit, elsewhere-end}
-use Rattle.rm_core.proofs.Moves.{Moved, moved-set}
 use Rattle.rm_core.proofs.Runs.{seat_empty, run_kept}
 use Rattle.rm_core.proofs.Sizes.{size_some}
 
 -- ---- what a stage says
 
--- a transaction is undone with that outcome; a rollback with that aim
-abbrev pub IsUndoing : Outcome → Type 0
-IsUndoing aborted = Unit {0}
-IsUndoing (died op holder) = Unit {0}
-IsUndoing other = ⊥
+-- an outcome but those of no space, of a read and of a commit
+abbrev pub IsPlain : Outcome → Type 0
+IsPlain (no_space row) = ⊥
+IsPlain (saw rid slot) = ⊥
+IsPlain committed = ⊥
+IsPlain other = Unit {0}
 
 abbrev pub IsAimed : Aim → Type 0
-IsAimed (undoes_all outcome) = IsUndoing outcome
+IsAimed (undoes_all outcome) = IsPlain outcome
 IsAimed (returns number lsn) = Unit {0}
 
 -- each page below that one is handled
 abbrev pub AllHandled : List Seen → ℕ → Type 0
 AllHandled seens on = (page : ℕ) → page < on → IsHandled seens page
 
--- the transaction is in the order of commits, and its commit record is durable
-abbrev pub IsOrdered : History → List Event → ℕ → Type 0
-IsOrdered history trace txn = IsAmong (order_of trace) txn × IsDurable history trace txn
-
 -- what a stage says of what the session's turns saw, of the trace and of the log
 abbrev pub Says : List Seen → List Event → History → ℕ → Stage → Type 0
 Says seens trace history txn (seeks row from) = AllHandled seens from × (0 < from)
 Says seens trace history txn (wants row on) = AllHandled seens on
 Says seens trace history txn (tries row on) = AllHandled seens on
-Says seens trace history txn (settles outcome on) = (last : Change) × IsLast history txn last × Writes outcome last
+Says seens trace history txn (settles outcome on) = IsPlain outcome × ((last : Change) × IsLast history txn last × Writes outcome last)
 Says seens trace history txn forces = IsAmong (order_of trace) txn × ((lsn : ℕ) × IsLogged history (commits (record { lsn = lsn; txn = txn })))
-Says seens trace history txn finishes = IsOrdered history trace txn
+Says seens trace history txn finishes = IsDurable history trace txn
 Says seens trace history txn (rolls aim) = IsAimed aim
 Says seens trace history txn (prepares aim on) = IsAimed aim
 Says seens trace history txn (compensates aim on) = IsAimed aim
@@ -75,37 +72,32 @@ Says seens trace history txn other = Unit {0}
 
 -- ---- the turns of other sessions
 
-abbrev Any : ℕ → Type 0
+abbrev pub Any : ℕ → Type 0
 Any page = Unit {0}
 
 pub among_more : (seen : Seen) (named : ℕ) (order : List ℕ) (txn : ℕ) → IsAmong order txn → IsAmong (ordered_with seen named order) txn
 among_more (sees.Commit lsn) named order txn is = inr is
 among_more other named order txn is = is
 
-pub logged_more : (logged : Option Act) (history : History) (act : Act) → IsLogged history act → IsLogged (logging logged history) act
+logged_more : (logged : Option Act) (history : History) (act : Act) → IsLogged history act → IsLogged (logging logged history) act
 logged_more None history act is = is
 logged_more (Some newest) history act is = inr is
 
-pub ordered_more : (logged : Option Act) (history : History) (e : Event) (trace : List Event) (txn : ℕ) → IsOrdered history trace txn
-    → IsOrdered (logging logged history) (e ∷ trace) txn
-ordered_more logged history e trace txn is = (
-  among_more e.seen e.txn (order_of trace) txn is.0,
-  record {
-    lsn = is.1.lsn;
-    durable = is.1.durable;
-    logged = logged_more logged history (commits (record { lsn = is.1.lsn; txn = txn })) is.1.logged;
-    told = inr is.1.told;
-    below = is.1.below;
-  },
-)
+pub durable_more : (logged : Option Act) (history : History) (e : Event) (trace : List Event) (txn : ℕ) → IsDurable history trace txn
+    → IsDurable (logging logged history) (e ∷ trace) txn
+durable_more logged history e trace txn is =
+    let act : Act = commits (record { lsn = is.lsn; txn = txn }) in
+    record { lsn = is.lsn; durable = is.durable; logged = logged_more logged history act is.logged; told = inr is.told; below = is.below }
 
 -- what a stage says holds after another's event, and after a record that leaves what is pending
 still_says : (seens : List Seen) (trace : List Event) (e : Event) (logged : Option Act) (history : History) (txn : ℕ) (stage : Stage)
-    → pending_of (logging logged history) txn ≡ pending_of history txn → Says seens trace history txn stage → Says seens (e ∷ trace) (logging logged history) txn stage
-still_says seens trace e logged history txn (settles outcome on) pending says = (says.0, (says.1.0, pending ∙ says.1.1), says.2)
+    → pending_of (logging logged history) txn ≡ pending_of history txn → Says seens trace history txn stage
+    → Says seens (e ∷ trace) (logging logged history) txn stage
+still_says seens trace e logged history txn (settles outcome on) pending says =
+    let is = says.1 in (says.0, (is.0, (is.1.0, pending ∙ is.1.1), is.2))
 still_says seens trace e logged history txn forces pending says =
     (among_more e.seen e.txn (order_of trace) txn says.0, (says.1.0, logged_more logged history (commits (record { lsn = says.1.0; txn = txn })) says.1.1))
-still_says seens trace e logged history txn finishes pending says = ordered_more logged history e trace txn says
+still_says seens trace e logged history txn finishes pending says = durable_more logged history e trace txn says
 still_says seens trace e logged history txn other pending says = says
 
 -- a turn's record is of its transaction
@@ -114,7 +106,8 @@ pub turn_elsewhere : (format : Format) (pages : ℕ) (s : State) (k : ℕ) (seat
 turn_elsewhere format pages s k seat (insert row rid lsn) may =
     elsewhere-change (change_of s.history seat.txn rid Vacant (Row row) lsn) s.history seat.txn Any refl tt
 turn_elsewhere format pages s k seat (alter rid slot lsn) may = elsewhere-change (setting s.history seat.txn rid slot lsn) s.history seat.txn Any refl tt
-turn_elsewhere format pages s k seat (settle outcome page lsn) may = elsewhere-enter (entry_now format s.history seat.txn page lsn) s.history seat.txn Any refl tt
+turn_elsewhere format pages s k seat (settle outcome page lsn) may =
+    elsewhere-enter (entry_now format s.history seat.txn page lsn) s.history seat.txn Any refl tt
 turn_elsewhere format pages s k seat (commit lsn) may = elsewhere-commit (record { lsn = lsn; txn = seat.txn }) s.history Any
 turn_elsewhere format pages s k seat (prepare aim last lsn) may =
     elsewhere-enter (entry_for format lsn s.history last) s.history seat.txn Any (last_is_of s.history seat.txn last may.next.0 may.next.1) tt
@@ -126,8 +119,8 @@ turn_elsewhere format pages s k seat other may = elsewhere-none s.history seat.t
 -- ---- the session's own turns
 
 -- a scan handles what it passes
-scan_says : (stage : Stage) (row : List ℕ) (from to : ℕ) (found : Bool) (seens : List Seen) (trace : List Event) (history : History) (txn : ℕ) → Scans stage row from
-    → Says seens trace history txn stage → AllHandled (sees.Scan from to found ∷ seens) to
+scan_says : (stage : Stage) (row : List ℕ) (from to : ℕ) (found : Bool) (seens : List Seen) (trace : List Event) (history : History) (txn : ℕ)
+    → Scans stage row from → Says seens trace history txn stage → AllHandled (sees.Scan from to found ∷ seens) to
 scan_says idle row from to found seens trace history txn scans says page below = inl (omega (arith, scans), below)
 scan_says (seeks sought on) row from to found seens trace history txn scans says page below = elim (cases_lt page from) [
   | inl before ↦ inr (λ none. absurd (omega (arith, none, says.1, scans.1)), says.0 page (omega (arith, before, scans.1)))
@@ -183,15 +176,17 @@ own_says format pages s k seat (latch page) seens trace ordered may says =
     latch_says s seat seat.stage page seens trace (event_at pages s k seat (latch page)) s.history seat.txn may.wants_it says
 own_says format pages s k seat (try row page slot) seens trace ordered may says = (try_says s seat page slot seens (rw may.0.at at says), omega arith)
 own_says format pages s k seat (insert row rid lsn) seens trace ordered may says =
-    let c : Change = change_of s.history seat.txn rid Vacant (Row row) lsn in (c, (pending_of s.history seat.txn, pending-change c s.history), (refl, refl))
+    let c : Change = change_of s.history seat.txn rid Vacant (Row row) lsn in
+    (tt, (c, (pending_of s.history seat.txn, pending-change c s.history), (refl, refl)))
 own_says format pages s k seat (alter rid slot lsn) seens trace ordered may says =
-    let c : Change = setting s.history seat.txn rid slot lsn in (c, (pending_of s.history seat.txn, pending-change c s.history), (refl, refl))
+    let c : Change = setting s.history seat.txn rid slot lsn in
+    (tt, (c, (pending_of s.history seat.txn, pending-change c s.history), (refl, refl)))
 own_says format pages s k seat (commit lsn) seens trace ordered may says = (inl refl, (lsn, inl refl))
 own_says format pages s k seat (force durable) seens trace ordered may says =
     let known = rw may.0 at says in
     let act : Act = commits (record { lsn = known.1.0; txn = seat.txn }) in
     let below : known.1.0 < durable = omega (arith, may.1, logged_below s.history act ordered known.1.1) in
-    (known.0, record { lsn = known.1.0; durable = durable; logged = known.1.1; told = inl (refl, known.0); below = below })
+    record { lsn = known.1.0; durable = durable; logged = known.1.1; told = inl (refl, known.0); below = below }
 own_says format pages s k seat (prepared aim last) seens trace ordered may says = rw may.0 at says
 own_says format pages s k seat (prepare aim last lsn) seens trace ordered may says = rw may.at at says
 own_says format pages s k seat (compensate aim last lsn) seens trace ordered may says = rw may.0 at says
@@ -215,33 +210,17 @@ apart_or_idle format s k j kept differs = elim (cases_eq (seat_at s.seats j).txn
 
 turn_says : (format : Format) (pages : ℕ) (trace : List Event) (s : State) (k : ℕ) (turn : Turn) → Kept format s → k < length s.seats
     → May format pages s k (seat_at s.seats k) turn → AllSay trace s → AllSay (event_of pages s k turn ∷ trace) (after format s k (seat_at s.seats k) turn)
-turn_says format pages trace s k turn kept among may all j =
+turn_says format pages trace s k turn kept among may all =
     let was : Seat = seat_at s.seats k in
-    let its : Seat = seat_at s.seats j in
     let e : Event = event_of pages s k turn in
     let new : Effect = effect format s was turn in
-    let history : History = logging new.logged s.history in
-    let moved : Moved (seat_at s.seats) (seat_at (set s.seats k new.seat)) k new.seat = moved-set s.seats k new.seat among in
-    elim (cases_eq k j) [
-      | inl is ↦ subst (λ (i : ℕ). SaysOf (e ∷ trace) history i (seat_at (set s.seats k new.seat) i)) is
-          (subst (SaysOf (e ∷ trace) history k) (sym moved.here) (rw (eq-eqb k k refl)
-          (own_says format pages s k was turn (seens_of trace k) trace (legal_is_in_order format s.history kept.legal) may (all k))))
-      | inr not ↦ subst (SaysOf (e ∷ trace) history j) (sym (moved.other j (λ is. not (sym is)))) (rw (ne_eqb k j not)
-          (elim (apart_or_idle format s k j kept (λ is. not (sym is))) [
-            | inl at ↦ rw at tt
-            | inr differs ↦ still_says (seens_of trace j) trace e new.logged s.history its.txn its.stage
-                ((turn_elsewhere format pages s k was turn may).pending its.txn differs) (all j)
-          ]))
-    ]
-
-closed_says : (trace : List Event) (s : State) (k : ℕ) → k < length s.seats → AllSay trace s → AllSay trace (closed s k)
-closed_says trace s k among all j =
-    let seat : Seat = staged (seat_at s.seats k) idle in
-    let moved : Moved (seat_at s.seats) (seat_at (set s.seats k seat)) k seat = moved-set s.seats k seat among in
-    elim (cases_eq j k) [
-      | inl is ↦ subst (SaysOf trace s.history j) (sym (ap (seat_at (set s.seats k seat)) is ∙ moved.here)) tt
-      | inr not ↦ subst (SaysOf trace s.history j) (sym (moved.other j not)) (all j)
-    ]
+    each_seat (SaysOf (e ∷ trace) (logging new.logged s.history)) s.seats k new.seat among
+    (rw (eq-eqb k k refl) (own_says format pages s k was turn (seens_of trace k) trace (legal_is_in_order format s.history kept.legal) may (all k)))
+    (λ j not. rw (ne_eqb k j (λ is. not (sym is))) (elim (apart_or_idle format s k j kept not) [
+      | inl at ↦ rw at tt
+      | inr differs ↦ still_says (seens_of trace j) trace e new.logged s.history (seat_at s.seats j).txn (seat_at s.seats j).stage
+          ((turn_elsewhere format pages s k was turn may).pending (seat_at s.seats j).txn differs) (all j)
+    ]))
 
 -- what the background's turns are not: a session's, of a record, the end of a search
 pub record IsQuiet (pages : ℕ) (actor : Actor) (seen : Seen) : Type 0 where
@@ -252,14 +231,14 @@ pub record IsQuiet (pages : ℕ) (actor : Actor) (seen : Seen) : Type 0 where
   pub last : EndsSearch pages seen → ⊥
 
 pub rest_is_quiet : (pages : ℕ) (s : State) (actor : Actor) (seen : Seen) → MayRest s actor seen → IsQuiet pages actor seen
-rest_is_quiet pages s Flush (sees.Force durable) may = record { actors = λ k is. cc; seens = λ k a b. refl; none = refl; change = λ h. tt; last = λ is. is }
+rest_is_quiet pages s Flush (sees.Force at) may = record { actors = λ k is. cc; seens = λ k a b. refl; none = refl; change = λ h. tt; last = λ is. is }
 rest_is_quiet pages s Clean (sees.Clean block) may = record { actors = λ k is. cc; seens = λ k a b. refl; none = refl; change = λ h. tt; last = λ is. is }
 rest_is_quiet pages s Checkpoint (sees.Sync area) may = record { actors = λ k is. cc; seens = λ k a b. refl; none = refl; change = λ h. tt; last = λ is. is }
-rest_is_quiet pages s Checkpoint (sees.Force durable) may = record { actors = λ k is. cc; seens = λ k a b. refl; none = refl; change = λ h. tt; last = λ is. is }
+rest_is_quiet pages s Checkpoint (sees.Force at) may = record { actors = λ k is. cc; seens = λ k a b. refl; none = refl; change = λ h. tt; last = λ is. is }
 rest_is_quiet pages s Checkpoint sees.Point may = record { actors = λ k is. cc; seens = λ k a b. refl; none = refl; change = λ h. tt; last = λ is. is }
 rest_is_quiet pages s Copy (sees.CopyStart start) may = record { actors = λ k is. cc; seens = λ k a b. refl; none = refl; change = λ h. tt; last = λ is. is }
 rest_is_quiet pages s Copy (sees.CopyBlock block) may = record { actors = λ k is. cc; seens = λ k a b. refl; none = refl; change = λ h. tt; last = λ is. is }
-rest_is_quiet pages s Copy (sees.Force durable) may = record { actors = λ k is. cc; seens = λ k a b. refl; none = refl; change = λ h. tt; last = λ is. is }
+rest_is_quiet pages s Copy (sees.Force at) may = record { actors = λ k is. cc; seens = λ k a b. refl; none = refl; change = λ h. tt; last = λ is. is }
 rest_is_quiet pages s Copy (sees.Sync area) may = record { actors = λ k is. cc; seens = λ k a b. refl; none = refl; change = λ h. tt; last = λ is. is }
 rest_is_quiet pages s Copy (sees.CopyPoint half) may = record { actors = λ k is. cc; seens = λ k a b. refl; none = refl; change = λ h. tt; last = λ is. is }
 rest_is_quiet pages s actor seen may = absurd may
@@ -278,54 +257,46 @@ event_says trace e logged s none pending all j =
 pub run_says : (m : Machine) → IsRun m → AllSay m.trace m.state
 run_says = kept_along (λ o trace s. AllSay trace s) (record {
   base = λ o is k. subst (SaysOf [] o.history k) (sym (seat_empty o.sessions k)) tt;
-  turn = λ m k turn run all moves.
-      turn_says m.opening.setting.format m.opening.setting.pages m.trace m.state k turn (run_kept m run) moves.0.among moves.0.may all;
-  close = λ m k run all among. closed_says m.trace m.state k among all;
+  turn = λ m k turn run all moves. turn_says (setting_of m).format (setting_of m).pages m.trace m.state k turn (run_kept m run) moves.0.among moves.0.may all;
+  close = λ m k run all among. each_seat (SaysOf m.trace m.state.history) m.state.seats k (staged (seat_of m k) idle) among tt (λ j not. all j);
   append = λ m l run all moves. event_says m.trace (append_event l) (Some (marks (lists l))) m.state (λ k a b. refl) (λ txn. refl) all;
   rest = λ m actor seen run all may.
-      event_says m.trace (rest_event actor seen) None m.state (rest_is_quiet m.opening.setting.pages m.state actor seen may).seens (λ txn. refl) all;
+      event_says m.trace (rest_event actor seen) None m.state (rest_is_quiet (setting_of m).pages m.state actor seen may).seens (λ txn. refl) all;
 })
 
 -- ---- what a session is told
 
--- where there is no space, what a read saw, and a commit
+-- what those outcomes tell: each page was handled, what the slot holds, the commit record is durable
 abbrev pub Told : ℕ → History → List Seen → List Event → ℕ → Option Outcome → Type 0
 Told pages history seens trace txn (Some (no_space row)) = AllHandled seens pages
 Told pages history seens trace txn (Some (saw rid slot)) = slot ≡ slot_at (page_of history rid.page) rid.slot
-Told pages history seens trace txn (Some committed) = IsOrdered history trace txn
+Told pages history seens trace txn (Some committed) = IsDurable history trace txn
 Told pages history seens trace txn other = Unit {0}
 
--- after a change, and after a rollback, it is told none of these
-written_told : (pages : ℕ) (history : History) (seens : List Seen) (trace : List Event) (txn : ℕ) (outcome : Outcome) (last : Change) → Writes outcome last
+plain_told : (pages : ℕ) (history : History) (seens : List Seen) (trace : List Event) (txn : ℕ) (outcome : Outcome) → IsPlain outcome
     → Told pages history seens trace txn (Some outcome)
-written_told pages history seens trace txn (inserted row rid) last writes = tt
-written_told pages history seens trace txn (altered rid slot) last writes = tt
-written_told pages history seens trace txn other last writes = absurd writes
-
-undone_told : (pages : ℕ) (history : History) (seens : List Seen) (trace : List Event) (txn : ℕ) (outcome : Outcome) → IsUndoing outcome
-    → Told pages history seens trace txn (Some outcome)
-undone_told pages history seens trace txn aborted undoing = tt
-undone_told pages history seens trace txn (died op holder) undoing = tt
-undone_told pages history seens trace txn other undoing = absurd undoing
+plain_told pages history seens trace txn (no_space row) plain = absurd plain
+plain_told pages history seens trace txn (saw rid slot) plain = absurd plain
+plain_told pages history seens trace txn committed plain = absurd plain
+plain_told pages history seens trace txn other plain = tt
 
 pub turn_told : (format : Format) (pages : ℕ) (s : State) (k : ℕ) (seat : Seat) (turn : Turn) (seens : List Seen) (trace : List Event)
     → May format pages s k seat turn → Says seens trace s.history seat.txn seat.stage
-    → Told pages (after format s k seat turn).history (seen_of pages s seat turn ∷ seens) (event_at pages s k seat turn ∷ trace) (txn_of seat turn) (outcome_of turn)
+    → Told pages (after format s k seat turn).history (seen_of pages s seat turn ∷ seens) (event_at pages s k seat turn ∷ trace)
+    (txn_of seat turn) (outcome_of turn)
 turn_told format pages s k seat (scan_last row from) seens trace may says = scan_says seat.stage row from pages false seens trace s.history seat.txn may.at says
 turn_told format pages s k seat (try_last row page slot) seens trace may says =
     λ one below. try_says s seat page slot seens (rw may.0.at at says) one (omega (arith, below, may.1))
 turn_told format pages s k seat (fetch rid slot) seens trace may says = may.1
-turn_told format pages s k seat finish seens trace may says = ordered_more None s.history (event_at pages s k seat finish) trace seat.txn (rw may at says)
+turn_told format pages s k seat finish seens trace may says = durable_more None s.history (event_at pages s k seat finish) trace seat.txn (rw may at says)
 turn_told format pages s k seat (settled outcome page) seens trace may says =
-    let writes = rw may.0 at says in
-    written_told pages s.history (sees.Settle page 0 ∷ seens) (event_at pages s k seat (settled outcome page) ∷ trace) seat.txn outcome writes.0 writes.2
+    plain_told pages s.history (sees.Settle page 0 ∷ seens) (event_at pages s k seat (settled outcome page) ∷ trace) seat.txn outcome (rw may.0 at says).0
 turn_told format pages s k seat (settle outcome page lsn) seens trace may says =
-    let writes = rw may.at at says in
-    written_told pages (after format s k seat (settle outcome page lsn)).history (sees.Settle page lsn ∷ seens)
-    (event_at pages s k seat (settle outcome page lsn) ∷ trace) seat.txn outcome writes.0 writes.2
+    plain_told pages (after format s k seat (settle outcome page lsn)).history (sees.Settle page lsn ∷ seens)
+    (event_at pages s k seat (settle outcome page lsn) ∷ trace) seat.txn outcome (rw may.at at says).0
 turn_told format pages s k seat (end outcome lsn) seens trace may says =
-    undone_told pages (after format s k seat (end outcome lsn)).history (sees.End lsn ∷ seens) (event_at pages s k seat (end outcome lsn) ∷ trace) seat.txn outcome
-    (rw may.0 at says)
+    plain_told pages (after format s k seat (end outcome lsn)).history (sees.End lsn ∷ seens)
+    (event_at pages s k seat (end outcome lsn) ∷ trace) seat.txn outcome (rw may.0 at says)
 turn_told format pages s k seat other seens trace may says = tt
 
 -- where no page is left, it is told that there is no space

@@ -1,21 +1,25 @@
-//! A page in memory: its LSN, its directory of slots, and how many of its bytes are in use.
+//! A page in memory: its LSN and its directory of slots.
 //!
-//! The count of used bytes is kept beside the slots, so that no call adds them up again. A page never
-//! uses more than [`CAPACITY`] bytes: it has at most 1,020 slots, and each row has at most
-//! [`rm_types::MAX_ROW`] bytes.
+//! A page never uses more than [`CAPACITY`] bytes: it has at most 1,020 slots, and each row has at most
+//! [`rm_types::MAX_ROW`] bytes. Beside the slots it keeps how many bytes are in use and which slot is the
+//! least vacant one, so that no call adds up or searches what an earlier one has, and memory for the
+//! directory in whole steps, so that [`Page::ready`] can take it before a row is put.
 #![tactic(auto)]
 
 mod directory;
 mod files;
 
-ghost use Rattle.std.specs.Prelude.{◌≡◌, ℕ, ◌+◌, ◌<◌, ◌≤◌, [], length, option_copied, IfSome, IsSome, OnOk, OnErr};
+ghost use Rattle.std.specs.Prelude.{◌≡◌, ℕ, ◌+◌, ◌<◌, ◌≤◌, [], length, option_copied, IfOk, IfSome, IsOk, IsSome, OnOk, OnErr};
 ghost use Rattle.rm_types.specs.declared.numbers.TheConstants.{MAX_SLOT};
 ghost use Rattle.rm_types.specs.declared.rows.TheConstants.{MAX_ROW};
 ghost use Rattle.rm_model.specs.Pages.{used, row_at, set_slot};
+ghost use Rattle.rm_model.specs.Categories.{category_of};
+ghost use Rattle.rm_page.specs.Directory.{IsReady};
 
-use crate::directory::{put, row_in, used_after};
+pub use crate::directory::Spare;
+use crate::directory::{put, row_in, used_beside, vacant_from, whole_steps};
 pub use crate::files::empty_pages;
-use rm_types::{CAPACITY, Lsn, NoMemory, Row, Slot};
+use rm_types::{CAPACITY, Format, Lsn, NoMemory, Row, Slot};
 use std::alloc::Global;
 use std::marker::Model;
 
@@ -24,19 +28,22 @@ use std::marker::Model;
 pub struct Page {
     lsn: Lsn,
     slots: Vec<Slot>,
+    // The bytes in use.
     used: u16,
+    // The least slot that is vacant or past the end.
+    vacant: u16,
 }
 
 impl Model for Page {
-    ghost use Rattle.std.specs.Prelude.{◌≡◌, ◌≤◌};
-    ghost use Rattle.rm_types.specs.declared.slots.TheConstants.{CAPACITY};
-    ghost use Rattle.rm_model.specs.Pages.{PageValue, used as used_by};
+    ghost use Rattle.std.specs.Vec.{vec_capacity};
+    ghost use Rattle.rm_model.specs.Pages.{PageValue};
+    ghost use Rattle.rm_page.specs.Directory.{IsKept};
 
     ghost Value = { PageValue };
 
     ghost view = { λ page. record { lsn = page.lsn; slots = page.slots.items } };
 
-    ghost invariant = { λ page. (page.used ≡ used_by page.slots.items) × (used_by page.slots.items ≤ CAPACITY) };
+    ghost invariant = { λ page. IsKept page.slots.items page.used page.vacant (vec_capacity page.slots) };
 }
 
 impl Page {
@@ -48,6 +55,7 @@ impl Page {
             lsn: Lsn(0),
             slots: Vec::new(alloc),
             used: 0,
+            vacant: 0,
         }
     }
 
@@ -78,7 +86,7 @@ impl Page {
     pub fn used_with(&self, slot: u16, row: &[u8]) -> usize
         ensures { result ≡ used (set_slot self.now.slots slot (Slot.Row row.now)) }
     {
-        used_after(&self.slots, self.used, slot, row)
+        used_beside(&self.slots, self.used, slot) + row.len()
     }
 
     /// The bytes of the row in a slot, at most [`rm_types::MAX_ROW`]: none exactly where the slot is vacant or
@@ -96,13 +104,50 @@ impl Page {
         ensures vacant { row_at self.now.slots result ≡ None }
         ensures least { (number : ℕ) → from ≤ number → number < result → IsSome (row_at self.now.slots number) }
     {
-        let count = self.slots();
-        for slot in from..count {
-            if self.row(slot).is_none() {
-                return slot;
-            }
+        // No slot before the kept one is vacant, so a full directory is not searched again.
+        if from <= self.vacant {
+            return self.vacant;
         }
-        from.max(count)
+        vacant_from(&self.slots, from)
+    }
+
+    /// How full the page is: its category in the inventory of a volume of this format.
+    pub fn category(&self, format: Format) -> u8
+        ensures { result ≡ category_of format self.now.slots }
+    {
+        let steps = self.used / format.category_bytes();
+        steps.min(format.greatest_category() as u16) as u8
+    }
+
+    /// Spare memory for the directory to reach a slot, so that [`Page::put`] takes none.
+    ///
+    /// # Errors
+    ///
+    /// [`NoMemory`], never where the directory has the memory already.
+    pub fn ready(&self, slot: u16) -> Result<Spare, NoMemory>
+        requires { slot ≤ MAX_SLOT }
+        ensures ready { IfOk result (IsReady self.now.slots slot) }
+        ensures free { IsReady self.now.slots slot 0 → IsOk result }
+    {
+        let wanted = whole_steps(slot as usize + 1);
+        let kept = whole_steps(self.slots.len());
+        let missing = if wanted > kept { wanted } else { 0 };
+        Spare::new(*self.slots.allocator(), missing)
+    }
+
+    /// Puts a row into a slot, with `lsn` as the page's LSN. A slot past the end adds vacant ones before it. It takes no
+    /// memory but `spare`, see [`Page::ready`]. The caller ensures that the row fits, see [`Page::used_with`]: there is
+    /// no refusal for space.
+    pub fn put(&mut self, slot: u16, row: Row, spare: Spare, lsn: Lsn)
+        requires ready { IsReady self.old.slots slot spare }
+        requires fits { used (set_slot self.old.slots slot (Slot.Row row)) ≤ CAPACITY }
+        ensures { self.new ≡ record { lsn = lsn; slots = set_slot self.old.slots slot (Slot.Row row) } }
+    {
+        self.used = self.used_with(slot, row.as_slice()) as u16;
+        spare.widen(&mut self.slots);
+        put(&mut self.slots, slot, Slot::Row(row));
+        self.vacant = vacant_from(&self.slots, self.vacant);
+        self.lsn = lsn;
     }
 
     /// Sets one slot to a row, with `lsn` as the page's LSN. A slot past the end adds vacant ones before it.
@@ -116,11 +161,20 @@ impl Page {
         ensures ok { OnOk result (self.new ≡ record { lsn = lsn; slots = set_slot self.old.slots slot (Slot.Row row.now) }) }
         ensures err { OnErr result (self.new ≡ self.old) }
     {
-        let used = self.used_with(slot, row) as u16;
         let row = Row::from_slice(*self.slots.allocator(), row)?;
-        put(&mut self.slots, slot, Slot::Row(row))?;
-        self.used = used;
-        self.lsn = lsn;
+        let spare = self.ready(slot)?;
+        self.put(slot, row, spare, lsn);
         Ok(())
+    }
+
+    /// Makes a slot vacant, with `lsn` as the page's LSN. It takes no memory.
+    pub fn clear(&mut self, slot: u16, lsn: Lsn)
+        requires { slot < length self.old.slots }
+        ensures { self.new ≡ record { lsn = lsn; slots = set_slot self.old.slots slot Slot.Vacant } }
+    {
+        self.used = used_beside(&self.slots, self.used, slot) as u16;
+        put(&mut self.slots, slot, Slot::Vacant);
+        self.vacant = self.vacant.min(slot);
+        self.lsn = lsn;
     }
 }

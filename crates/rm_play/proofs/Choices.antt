@@ -17,7 +17,7 @@ use Rattle.rm_history.proofs.FallingLsns.{pending_falls}
 use Rattle.rm_history.proofs.Prefixes.{legal_is_in_order}
 use Rattle.rm_events.specs.declared.operations.Op.{Op}
 use Rattle.rm_events.specs.declared.operations.Op.TheVariants as ops
-use Rattle.rm_play.specs.Choices.{Takes, TakesAt, MayTake, IsMoveFor, MovesExist}
+use Rattle.rm_play.specs.Choices.{Takes, TakesAt, MayTake, IsMoveFor}
 use Rattle.rm_core.specs.Effects.{after}
 use Rattle.rm_core.specs.Kept.{Kept}
 use Rattle.rm_core.specs.Locks.{IsInside, Asks}
@@ -318,14 +318,3 @@ module _ (m : Setting) (s : State) (k : ℕ) where
     | inr not ↦ asked ops.Begin among at (λ none same. elim (cases_eq s.next (2 ^ 32)) [ inl all ↦ absurd (not (none, all)) | inr differs ↦ omega arith ])
   ]
   begins op among at ids = asked op among at (λ none same. absurd cc)
-
-pub moves_exist : MovesExist
-moves_exist m k op run among =
-    let set : Setting = m.opening.setting in
-    let kept : Kept set.format m.state = run_kept m run in
-    let inside : Inside set m.opening.next m.state = run_inside m run in
-    elim (cases_eq (seat_at m.state.seats k).txn 0) [
-      | inl none ↦ begins set m.state k op among (kept.bare k none) (inside.ids run.opening.ids)
-      | inr some ↦ going set m.state k op among (seat_at m.state.seats k).stage (record { kept = kept; among = among; some = some }) refl (inside.within k)
-          (λ at. begins set m.state k op among at (inside.ids run.opening.ids))
-    ]

@@ -52,11 +52,6 @@ IsMoveFor m s k op (answered j (log_full at)) =
 IsMoveFor m s k op (answered j (spent last)) = (j ≡ k) × ((seat_at s.seats k).stage ≡ idle) × (op ≡ ops.Begin) × IsSpent s k × (last + 1 ≡ s.next)
 IsMoveFor m s k op other = ⊥
 
--- Each session has a move for each operation.
-abbrev pub MovesExist : Type 0
-MovesExist = (m : Machine) (k : ℕ) (op : Op) → IsRun m → k < length m.state.seats
-    → (move : Move) × (new : State) × IsMoveFor m.opening.setting m.state k op move × Moves m.opening.setting m.state move new
-
 -- a turn without its free choices: the LSN of its record, the durable offset
 abbrev pub erased : Turn → Turn
 erased (insert row rid lsn) = insert row rid 0

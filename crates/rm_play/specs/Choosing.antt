@@ -1,6 +1,7 @@
 -- The move that a session makes for an operation, as a function of its one free choice: the offset at which the next record may stand, which
 -- is the LSN of its record, or how far the log is durable.
-use Rattle.std.specs.Prelude.{◌<◌, ℕ, zero, suc, ◌+◌, ◌-◌, ◌*◌, ◌^◌, ◌==◌, ◌&&◌, nat_lt, if◌then◌else◌, Bool, true, false, List, [], ◌∷◌, length, min, max, Option, Some, None}
+use Rattle.std.specs.Prelude.{◌<◌, ℕ, zero, suc, ◌+◌, ◌-◌, ◌*◌, ◌^◌, ◌==◌, ◌&&◌, ◌||◌, not, nat_lt, nat_le, if◌then◌else◌, Bool, true, false, List, [], ◌∷◌, length, min, max, Option, Some, None, is_some}
+use Rattle.std.specs.Option.{unwrap_or}
 use Rattle.rm_types.specs.declared.formats.Format.{Format}
 use Rattle.rm_types.specs.declared.numbers.Rid.{Rid}
 use Rattle.rm_types.specs.declared.numbers.TheConstants.{MAX_SLOT}
@@ -35,44 +36,18 @@ use Rattle.rm_core.specs.Turns.{settled, settle, commit, force, finish, abort, p
 
 -- ---- what is looked for
 
-abbrev pub not : Bool → Bool
-not true = false
-not false = true
+-- the first of n numbers from one on that the test takes
+abbrev pub first_from : (ℕ → Bool) → ℕ → ℕ → Option ℕ
+first_from test from zero = None
+first_from test from (suc n) = if test from then Some from else first_from test (suc from) n
 
-abbrev pub or : Bool → Bool → Bool
-or true other = true
-or false other = other
-
-abbrev pub nat_le : ℕ → ℕ → Bool
-nat_le a b = nat_lt a (suc b)
-
-abbrev pub is_vacant : Slot → Bool
-is_vacant slot.Vacant = true
-is_vacant (slot.Row row) = false
-
--- the first of n pages from one on that its entry does not exclude
+-- the first page of a part of the file that its entry does not exclude
 abbrev pub first_open : Format → History → ℕ → ℕ → ℕ → Option ℕ
-first_open format history len from zero = None
-first_open format history len from (suc n) =
-    if nat_lt CAPACITY (category_bytes format * entry_of history from + len) then first_open format history len (suc from) n else Some from
-
--- another transaction has a lock on the row id
-abbrev pub is_held : List Grant → ℕ → Rid → Bool
-is_held [] txn rid = false
-is_held (first ∷ grants) txn rid = or (not (first.txn == txn) && is_same_place first.rid rid) (is_held grants txn rid)
-
--- the first of n slots of a page from one on that is vacant and not held by another's lock
-abbrev pub first_free : List Grant → ℕ → ℕ → List Slot → ℕ → ℕ → ℕ
-first_free grants txn page slots from zero = from
-first_free grants txn page slots from (suc n) =
-    if is_vacant (slot_at slots from) && not (is_held grants txn (record { page = page; slot = from })) then from else first_free grants txn page slots (suc from) n
-
-abbrev pub slot_for : State → Seat → ℕ → ℕ
-slot_for s seat page = first_free s.grants seat.txn page (page_of s.history page) 0 (length (page_of s.history page) + length s.grants)
+first_open format history len from stop = first_from (λ page. nat_le (category_bytes format * entry_of history page + len) CAPACITY) from (stop - from)
 
 -- the least other transaction whose lock refuses one
 abbrev pub blocks_it : Grant → ℕ → Rid → Bool → Bool
-blocks_it grant txn rid alone = not (grant.txn == txn) && (is_same_place grant.rid rid && or alone grant.alone)
+blocks_it grant txn rid alone = not (grant.txn == txn) && (is_same_place grant.rid rid && (alone || grant.alone))
 
 abbrev pub least_with : ℕ → Option ℕ → ℕ
 least_with txn None = txn
@@ -82,6 +57,22 @@ abbrev pub blocker : List Grant → ℕ → Rid → Bool → Option ℕ
 blocker [] txn rid alone = None
 blocker (first ∷ grants) txn rid alone =
     if blocks_it first txn rid alone then Some (least_with first.txn (blocker grants txn rid alone)) else blocker grants txn rid alone
+
+-- the first slot of a page that is vacant and not held by another's lock: one is, past the directory and past the slots of all locks
+abbrev pub is_vacant : Slot → Bool
+is_vacant slot.Vacant = true
+is_vacant (slot.Row row) = false
+
+abbrev pub is_free : State → Seat → ℕ → ℕ → Bool
+is_free s seat page number =
+    is_vacant (slot_at (page_of s.history page) number) && not (is_some (blocker s.grants seat.txn (record { page = page; slot = number }) true))
+
+abbrev pub past_locks : List Grant → ℕ
+past_locks [] = 0
+past_locks (first ∷ grants) = max (first.rid.slot + 1) (past_locks grants)
+
+abbrev pub slot_for : State → Seat → ℕ → ℕ
+slot_for s seat page = unwrap_or (first_from (is_free s seat page) 0 (max (length (page_of s.history page)) (past_locks s.grants) + 1)) 0
 
 -- the stage has the page latched, alone and shared; the stage takes a page shared
 abbrev pub latches_it : Stage → ℕ → Bool
@@ -100,12 +91,13 @@ abbrev pub is_reading : Stage → Bool
 is_reading (reads rid) = true
 is_reading other = false
 
--- the first of n sessions from one on whose latch refuses the session's
-abbrev pub first_barring : State → ℕ → ℕ → ℕ → ℕ → Option ℕ
-first_barring s k page j zero = None
-first_barring s k page j (suc n) =
-    if not (j == k) && or (latches_it (seat_at s.seats j).stage page) (not (is_reading (seat_at s.seats k).stage) && looks_at (seat_at s.seats j).stage page)
-    then Some j else first_barring s k page (suc j) n
+-- the first session whose latch refuses the session's
+abbrev pub bars_it : State → ℕ → ℕ → ℕ → Bool
+bars_it s k page j =
+    not (j == k) && (latches_it (seat_at s.seats j).stage page || (not (is_reading (seat_at s.seats k).stage) && looks_at (seat_at s.seats j).stage page))
+
+abbrev pub first_barring : State → ℕ → ℕ → Option ℕ
+first_barring s k page = first_from (bars_it s k page) 0 (length s.seats)
 
 abbrev pub row_fits : State → Seat → ℕ → ℕ → ℕ → Bool
 row_fits s seat page number len =
@@ -117,7 +109,7 @@ growth_fits s seat page growth = nat_le (used (page_of s.history page) + others_
 
 abbrev pub has_number : {A : Type 0} → List (Savepoint A) → ℕ → Bool
 has_number [] number = false
-has_number (first ∷ points) number = or (first.number == number) (has_number points number)
+has_number (first ∷ points) number = (first.number == number) || has_number points number
 
 -- ---- the moves
 
@@ -139,14 +131,14 @@ found_at pages part row from (Some page) = scan row from page true
 found_at pages part row from None = if part == pages then scan_last row from else scan row from part false
 
 abbrev pub scanning : Setting → State → List ℕ → ℕ → Turn
-scanning m s row from = found_at m.pages (part_end m.pages from) row from (first_open m.format s.history (length row) from (part_end m.pages from - from))
+scanning m s row from = found_at m.pages (part_end m.pages from) row from (first_open m.format s.history (length row) from (part_end m.pages from))
 
 abbrev pub latching : State → ℕ → ℕ → Option ℕ → Move
 latching s k page None = turns k (latch page)
 latching s k page (Some by) = answered k (again by)
 
 abbrev pub latching_at : State → ℕ → ℕ → Move
-latching_at s k page = latching s k page (first_barring s k page 0 (length s.seats))
+latching_at s k page = latching s k page (first_barring s k page)
 
 abbrev pub trying : Setting → State → ℕ → ℕ → List ℕ → ℕ → Move
 trying m s k lsn row page =
@@ -195,8 +187,15 @@ abbrev pub compensating : ℕ → Aim → List Change → Turn
 compensating lsn aim [] = finish
 compensating lsn aim (last ∷ rest) = compensate aim last lsn
 
--- an idle session's, in a transaction
+-- an idle session's, outside a transaction and in one
+abbrev pub outside : Setting → State → ℕ → ℕ → Op → Move
+outside m s k lsn ops.Unbound = turns k unname
+outside m s k lsn ops.Begin = beginning m s k lsn
+outside m s k lsn op = turns k (skip op)
+
 abbrev pub asking : Setting → State → ℕ → ℕ → Op → Turn
+asking m s k lsn ops.Unbound = unname
+asking m s k lsn ops.Begin = skip ops.Begin
 asking m s k lsn (ops.Insert row) = scanning m s row 0
 asking m s k lsn (ops.Read rid) = locking m s (seat_at s.seats k) (ops.Read rid) rid false
 asking m s k lsn (ops.Update rid row) = locking m s (seat_at s.seats k) (ops.Update rid row) rid true
@@ -205,12 +204,9 @@ asking m s k lsn (ops.Save number) = save number
 asking m s k lsn (ops.Back number) = returning (seat_at s.seats k) number
 asking m s k lsn ops.Commit = commit lsn
 asking m s k lsn ops.Abort = abort
-asking m s k lsn op = skip op
 
 abbrev pub asked_now : Setting → State → ℕ → ℕ → Op → Move
-asked_now m s k lsn ops.Unbound = turns k unname
-asked_now m s k lsn ops.Begin = if (seat_at s.seats k).txn == 0 then beginning m s k lsn else turns k (skip ops.Begin)
-asked_now m s k lsn op = turns k (if (seat_at s.seats k).txn == 0 then skip op else asking m s k lsn op)
+asked_now m s k lsn op = if (seat_at s.seats k).txn == 0 then outside m s k lsn op else turns k (asking m s k lsn op)
 
 abbrev pub chosen_at : Setting → State → ℕ → ℕ → Op → Stage → Move
 chosen_at m s k lsn op idle = asked_now m s k lsn op
@@ -248,3 +244,8 @@ abbrev pub ChosenIsMove : Type 0
 ChosenIsMove = (m : Machine) (k lsn : ℕ) (op : Op) → IsRun m → k < length m.state.seats → IsNext m.state.history lsn
     → IsMoveFor m.opening.setting m.state k op (chosen m.opening.setting m.state k lsn op)
     × Moves m.opening.setting m.state (chosen m.opening.setting m.state k lsn op) (state_after m.opening.setting m.state (chosen m.opening.setting m.state k lsn op))
+
+-- So each session has a move for each operation.
+abbrev pub MovesExist : Type 0
+MovesExist = (m : Machine) (k : ℕ) (op : Op) → IsRun m → k < length m.state.seats
+    → (move : Move) × (new : State) × IsMoveFor m.opening.setting m.state k op move × Moves m.opening.setting m.state move new

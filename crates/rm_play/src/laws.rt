@@ -1,11 +1,19 @@
-//! The laws: that each session has a move, which one it is, and when it ends.
+//! The laws: which move a session makes, that it has one, and when its operation ends.
 
-ghost use Rattle.rm_play.specs.Choices.{MovesAreOne, MovesExist};
+ghost use Rattle.rm_play.specs.Choices.{MovesAreOne};
+ghost use Rattle.rm_play.specs.Choosing.{ChosenIsMove, MovesExist};
 ghost use Rattle.rm_play.specs.Following.{ScriptsRun};
 ghost use Rattle.rm_play.specs.Lengths.{OperationsEnd, TurnsComeNearer};
+ghost use Rattle.rm_play.specs.Playing.{TurnsAreMade};
 
-/// At each stage and for each operation there is a turn, or an answer without one.
-pub fn moves_exist()
+/// The chosen move is the session's for the operation, and one that the machine may make, at each offset at which the
+/// next record may stand.
+pub fn a_chosen_move_may_be_made()
+    ensures { ChosenIsMove }
+{}
+
+/// At each stage and for each operation a session has a turn, or an answer without one.
+pub fn every_session_has_a_move()
     ensures { MovesExist }
 {}
 
@@ -28,4 +36,9 @@ pub fn operations_end()
 /// The run of a script is a run of the machine, and its trace follows the lines.
 pub fn scripts_run()
     ensures { ScriptsRun }
+{}
+
+/// Each turn of the run of a script can be made, by the chosen move.
+pub fn every_turn_can_be_made()
+    ensures { TurnsAreMade }
 {}

@@ -7,4 +7,7 @@
 
 mod laws;
 
-pub use laws::{moves_are_one, moves_exist, operations_end, scripts_run, turns_come_nearer};
+pub use laws::{
+    a_chosen_move_may_be_made, every_session_has_a_move, every_turn_can_be_made, moves_are_one,
+    operations_end, scripts_run, turns_come_nearer,
+};
