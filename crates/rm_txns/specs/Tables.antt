@@ -22,7 +22,7 @@ seat_of seats session = slice_index_or (None ∷ seats) session None
 abbrev pub txn_of : Table → ℕ → Option Txn
 txn_of table session = seat_of table.seats session
 
--- what a session's transaction owes, and what all owe
+-- the bytes that a session's transaction owes, and those that all owe
 abbrev pub owed_of : Option Txn → ℕ
 owed_of None = 0
 owed_of (Some txn) = txn.owed
@@ -47,7 +47,7 @@ pub record HaveOwnIds (table : Table) : Type 0 where
   pub given : (session id : ℕ) → HasId (txn_of table session) id → (1 ≤ id) × (id < table.next)
   pub apart : (a b id : ℕ) → HasId (txn_of table a) id → HasId (txn_of table b) id → a ≡ b
 
--- what a transaction owes for its pending records
+-- the bytes that a transaction owes beside those that it owes from its begin on
 abbrev pub excess_of : Option Txn → ℕ
 excess_of None = 0
 excess_of (Some txn) = txn.owed - OWED
@@ -60,16 +60,16 @@ pub record Stands (table : Table) (total : ℕ) : Type 0 where
   pub total_is : total ≡ owed_by table
   pub bound : sum_by excess_of table.seats ≤ 2 ^ 63
 
--- where a session's transaction stands, if restart would have to undo it: it has made a record, and is not committed
+-- the id and the undo place of a session's transaction, if it is a loser: it has made a record, and is not committed
 abbrev pub loser_of : Option Txn → Option Place
 loser_of None = None
 loser_of (Some txn) = if txn.pushed && not txn.committed then Some (record { number = txn.id.0; at = txn.undo.0 }) else None
 
--- the place is that of a loser
+-- the place is the id and the undo place of a loser
 abbrev pub IsLoser : List (Option Txn) → Place → Type 0
 IsLoser seats place = (session : ℕ) × (loser_of (seat_of seats session) ≡ Some place)
 
--- the places are exactly those of the losers
+-- the places are those of the losers, and no others
 pub record AreLosers (table : Table) (places : List Place) : Type 0 where
   pub every : (place : Place) → IsLoser table.seats place → Contains places place
   pub only : (place : Place) → Contains places place → IsLoser table.seats place

@@ -6,26 +6,26 @@ use Rattle.rm_txns.specs.declared.transaction.Txn.{Txn}
 use Rattle.rm_txns.specs.declared.transaction.TheConstants.{OWED}
 use Rattle.rm_txns.specs.Savepoints.{without, back_to}
 
--- one that begins
+-- at its begin
 abbrev pub begun : TxnId → Txn
 begun id = record { id = id; undo = record { 0 = 0 }; saves = []; owed = OWED; pushed = false; committed = false }
 
--- with one more pending record, which has this many bytes of before row
-abbrev pub pushed : Lsn → ℕ → Txn → Txn
-pushed lsn before txn = record txn { undo = lsn; owed = txn.owed + (OWED + before); pushed = true }
+-- after a new last pending record, whose before row has this many bytes
+abbrev pub after_push : Lsn → ℕ → Txn → Txn
+after_push lsn before txn = record txn { undo = lsn; owed = txn.owed + (OWED + before); pushed = true }
 
--- without its last pending record: the one below stands there
-abbrev pub popped : Lsn → ℕ → Txn → Txn
-popped next before txn = record txn { undo = next; owed = txn.owed - (OWED + before) }
+-- after its last pending record is undone: the one below it stands at `next`
+abbrev pub after_pop : Lsn → ℕ → Txn → Txn
+after_pop next before txn = record txn { undo = next; owed = txn.owed - (OWED + before) }
 
--- with a savepoint at its last pending record, and no older one of that number
-abbrev pub saved : ℕ → Txn → Txn
-saved number txn = record txn { saves = record { number = number; at = txn.undo } ∷ without number txn.saves }
+-- after a savepoint is set at its last pending record: an older one of that number is dropped
+abbrev pub after_save : ℕ → Txn → Txn
+after_save number txn = record txn { saves = record { number = number; at = txn.undo } ∷ without number txn.saves }
 
--- without the savepoints after that of the number
-abbrev pub back_at : ℕ → Txn → Txn
-back_at number txn = record txn { saves = back_to number txn.saves }
+-- after it is back at a savepoint: the later ones are dropped
+abbrev pub after_back : ℕ → Txn → Txn
+after_back number txn = record txn { saves = back_to number txn.saves }
 
--- with its commit record: nothing is pending, and nothing is owed
-abbrev pub committed : Txn → Txn
-committed txn = record txn { undo = record { 0 = 0 }; owed = 0; committed = true }
+-- after its commit record: nothing is pending, and nothing is owed
+abbrev pub after_commit : Txn → Txn
+after_commit txn = record txn { undo = record { 0 = 0 }; owed = 0; committed = true }

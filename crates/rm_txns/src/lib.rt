@@ -10,6 +10,5 @@ mod savepoints;
 mod table;
 mod transaction;
 
-pub use savepoints::{Savepoint, Savepoints};
 pub use table::{BeginRefused, Txns};
-pub use transaction::{OWED, Txn};
+pub use transaction::OWED;

@@ -1,7 +1,7 @@
 //! One transaction.
 
 ghost use Rattle.std.specs.Prelude.{◌≡◌, ◌+◌, ◌≤◌, ◌<◌, ◌^◌, OnOk, OnErr};
-ghost use Rattle.rm_txns.specs.Transactions.{begun, pushed, popped, saved, back_at, committed};
+ghost use Rattle.rm_txns.specs.Transactions.{begun, after_push, after_pop, after_save, after_back, after_commit};
 
 use crate::savepoints::Savepoints;
 use rm_types::{Lsn, NoMemory, TxnId};
@@ -46,7 +46,7 @@ impl Txn {
     // A new last pending record, with this many bytes of before row.
     pub(crate) fn push(&mut self, lsn: Lsn, before: u16)
         requires { self.old.owed + OWED + before < 2 ^ 64 }
-        ensures { self.new ≡ pushed lsn before self.old }
+        ensures { self.new ≡ after_push lsn before self.old }
     {
         self.undo = lsn;
         self.owed += OWED + before as u64;
@@ -56,7 +56,7 @@ impl Txn {
     // The last pending record is undone; the one below it stands at `next`.
     pub(crate) fn pop(&mut self, next: Lsn, before: u16)
         requires { OWED + before ≤ self.old.owed }
-        ensures { self.new ≡ popped next before self.old }
+        ensures { self.new ≡ after_pop next before self.old }
     {
         self.undo = next;
         self.owed -= OWED + before as u64;
@@ -64,7 +64,7 @@ impl Txn {
 
     // Sets a savepoint.
     pub(crate) fn save(&mut self, number: u8) -> Result<(), NoMemory>
-        ensures ok { OnOk result (self.new ≡ saved number self.old) }
+        ensures ok { OnOk result (self.new ≡ after_save number self.old) }
         ensures err { OnErr result (self.new ≡ self.old) }
     {
         self.saves.save(number, self.undo)
@@ -72,14 +72,14 @@ impl Txn {
 
     // The savepoints after that of the number are dropped.
     pub(crate) fn back(&mut self, number: u8)
-        ensures { self.new ≡ back_at number self.old }
+        ensures { self.new ≡ after_back number self.old }
     {
         self.saves.back(number);
     }
 
     // It has its commit record.
     pub(crate) fn commit(&mut self)
-        ensures { self.new ≡ committed self.old }
+        ensures { self.new ≡ after_commit self.old }
     {
         self.undo = Lsn(0);
         self.owed = 0;
