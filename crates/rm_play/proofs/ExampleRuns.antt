@@ -1,10 +1,10 @@
 -- Runs of the machine by the words of scripts, evaluated.
-use Rattle.std.proofs.Common.{◌≡◌, ℕ, zero, suc, ◌^◌, false, List, [], ◌∷◌, ◌++◌, length, map, reverse, replicate, Option, Some, None, refl}
+use Rattle.std.proofs.Common.{◌≡◌, ℕ, suc, ◌^◌, false, List, [], ◌∷◌, length, map, reverse, replicate, Option, Some, None, refl}
 use Rattle.std.specs.List.{range_with_len}
 use Rattle.rm_types.specs.declared.formats.Format.TheVariants.{One}
 use Rattle.rm_types.specs.declared.numbers.Rid.{Rid}
 use Rattle.rm_model.specs.Pages.{used}
-use Rattle.rm_history.specs.Acts.{Act, History, enters}
+use Rattle.rm_history.specs.Acts.{History, enters}
 use Rattle.rm_history.specs.Contents.{page_of, entry_of}
 use Rattle.rm_history.specs.Needs.{need_of}
 use Rattle.rm_history.specs.Rows.{rows_of_log}
@@ -91,9 +91,9 @@ committed k = replies_with k replies.Committed
 -- and one of 72 has. Then the rollback finds them.
 abbrev of_deleter : Progress
 of_deleter = run 1 (
-      (line.Begin ∷ insert_row 4000 97 ∷ line.Commit ∷ [])
-      ∷ (line.Begin ∷ line.Delete (At (at 0)) ∷ line.Abort ∷ [])
-      ∷ (line.Begin ∷ insert_row 73 98 ∷ insert_row 72 98 ∷ line.Commit ∷ []) ∷ [])
+    (line.Begin ∷ insert_row 4000 97 ∷ line.Commit ∷ [])
+    ∷ (line.Begin ∷ line.Delete (At (at 0)) ∷ line.Abort ∷ [])
+    ∷ (line.Begin ∷ insert_row 73 98 ∷ insert_row 72 98 ∷ line.Commit ∷ []) ∷ [])
     (turns 1 8 ∷ turns 2 5 ∷ turns 3 11 ∷ turns 2 5 ∷ [])
 
 freed_bytes_stay : printed of_deleter ≡
@@ -113,10 +113,10 @@ both_rows = refl
 -- Two others fill the page to its last byte, by 4 + 4 + 30 + 4 + 38 = 80 beside the deleter's 4,000: 39 in place of 38 would be one too many.
 abbrev of_fillers : List Word → Progress
 of_fillers words = run 1 (
-      (line.Begin ∷ insert_row 4000 97 ∷ line.Commit ∷ [])
-      ∷ (line.Begin ∷ line.Delete (At (at 0)) ∷ line.Abort ∷ [])
-      ∷ (line.Begin ∷ insert_row 30 98 ∷ line.Commit ∷ [])
-      ∷ (line.Begin ∷ insert_row 39 99 ∷ insert_row 38 99 ∷ line.Commit ∷ []) ∷ []) words
+    (line.Begin ∷ insert_row 4000 97 ∷ line.Commit ∷ [])
+    ∷ (line.Begin ∷ line.Delete (At (at 0)) ∷ line.Abort ∷ [])
+    ∷ (line.Begin ∷ insert_row 30 98 ∷ line.Commit ∷ [])
+    ∷ (line.Begin ∷ insert_row 39 99 ∷ insert_row 38 99 ∷ line.Commit ∷ []) ∷ []) words
 
 two_fill_the_page : printed (of_fillers (turns 1 8 ∷ turns 2 5 ∷ turns 3 5 ∷ turns 4 8 ∷ turns 3 3 ∷ turns 4 3 ∷ turns 2 5 ∷ [])) ≡
     began 1 1 ∷ inserted 1 0 ∷ committed 1 ∷ began 2 2 ∷ replies_with 2 replies.Deleted ∷ began 3 3 ∷ inserted 3 1 ∷ began 4 4 ∷ replies_with 4 replies.NoSpace
@@ -136,8 +136,8 @@ after_the_undo = refl
 -- the deleter itself may use them, in the slot that it holds, and then finds them again
 abbrev of_reuser : List Word → Progress
 of_reuser words = run 1 (
-      (line.Begin ∷ insert_row 4000 97 ∷ line.Commit ∷ [])
-      ∷ (line.Begin ∷ line.Delete (At (at 0)) ∷ insert_row 3000 99 ∷ line.Abort ∷ []) ∷ []) words
+    (line.Begin ∷ insert_row 4000 97 ∷ line.Commit ∷ [])
+    ∷ (line.Begin ∷ line.Delete (At (at 0)) ∷ insert_row 3000 99 ∷ line.Abort ∷ []) ∷ []) words
 
 own_bytes_are_used : printed (of_reuser (turns 1 8 ∷ turns 2 9 ∷ turns 2 8 ∷ [])) ≡
     began 1 1 ∷ inserted 1 0 ∷ committed 1 ∷ began 2 2 ∷ replies_with 2 replies.Deleted ∷ inserted 2 0 ∷ replies_with 2 replies.Aborted ∷ []
@@ -158,9 +158,9 @@ row_is_back = refl
 -- empty row, which would need 3,980 + 4 + 100 = 4,084.
 abbrev of_saver : List Word → Progress
 of_saver words = run 1 (
-      (line.Begin ∷ insert_row 100 97 ∷ line.Insert 1 (replicate 3918 98) ∷ line.Commit ∷ [])
-      ∷ (line.Begin ∷ line.Save 1 ∷ insert_row 50 99 ∷ line.Delete (At (at 0)) ∷ line.Back 1 ∷ line.Commit ∷ [])
-      ∷ (line.Begin ∷ insert_row 0 0 ∷ line.Commit ∷ []) ∷ []) words
+    (line.Begin ∷ insert_row 100 97 ∷ line.Insert 1 (replicate 3918 98) ∷ line.Commit ∷ [])
+    ∷ (line.Begin ∷ line.Save 1 ∷ insert_row 50 99 ∷ line.Delete (At (at 0)) ∷ line.Back 1 ∷ line.Commit ∷ [])
+    ∷ (line.Begin ∷ insert_row 0 0 ∷ line.Commit ∷ []) ∷ []) words
 
 the_most_is_kept : printed (of_saver (turns 1 12 ∷ turns 2 10 ∷ turns 3 4 ∷ turns 2 11 ∷ turns 3 3 ∷ [])) ≡
     began 1 1 ∷ inserted 1 0 ∷ inserted 1 1 ∷ committed 1 ∷ began 2 2 ∷ replies_with 2 (replies.Saved 1) ∷ inserted 2 2 ∷ replies_with 2 replies.Deleted
@@ -181,9 +181,9 @@ after_the_rollback = refl
 -- The page comes to its second category by session 3's row and stays in it: session 2's rollback enters nothing.
 abbrev of_stayer : Progress
 of_stayer = run 1 (
-      (line.Begin ∷ insert_row 1000 97 ∷ line.Commit ∷ [])
-      ∷ (line.Begin ∷ insert_row 20 98 ∷ line.Abort ∷ [])
-      ∷ (line.Begin ∷ insert_row 100 99 ∷ line.Commit ∷ []) ∷ [])
+    (line.Begin ∷ insert_row 1000 97 ∷ line.Commit ∷ [])
+    ∷ (line.Begin ∷ insert_row 20 98 ∷ line.Abort ∷ [])
+    ∷ (line.Begin ∷ insert_row 100 99 ∷ line.Commit ∷ []) ∷ [])
     (turns 1 8 ∷ turns 2 5 ∷ turns 3 8 ∷ turns 2 5 ∷ word.Turns Flush 1 ∷ [])
 
 one_entry : (printed of_stayer ≡ began 1 1 ∷ inserted 1 0 ∷ committed 1 ∷ began 2 2 ∷ inserted 2 1 ∷ began 3 3 ∷ inserted 3 2 ∷ committed 3 ∷ replies_with 2 replies.Aborted ∷ [])
@@ -194,8 +194,8 @@ one_entry = (refl, refl, refl)
 -- Session 2's row brings the page to its second category, and session 1's rollback takes it back: that one enters it.
 abbrev of_leaver : Progress
 of_leaver = run 1 (
-      (line.Begin ∷ insert_row 500 97 ∷ line.Abort ∷ [])
-      ∷ (line.Begin ∷ insert_row 516 98 ∷ line.Commit ∷ []) ∷ [])
+    (line.Begin ∷ insert_row 500 97 ∷ line.Abort ∷ [])
+    ∷ (line.Begin ∷ insert_row 516 98 ∷ line.Commit ∷ []) ∷ [])
     (turns 1 5 ∷ turns 2 8 ∷ turns 1 5 ∷ word.Turns Flush 1 ∷ [])
 
 entered_by_the_rollback : (printed of_leaver ≡ began 1 1 ∷ inserted 1 0 ∷ began 2 2 ∷ inserted 2 1 ∷ committed 2 ∷ replies_with 1 replies.Aborted ∷ [])
@@ -208,8 +208,8 @@ entered_by_the_rollback = (refl, refl, refl)
 -- Session 2 has read the empty slot 0, and keeps it locked: session 1's row gets slot 1.
 abbrev of_reader : Progress
 of_reader = run 1 (
-      (line.Begin ∷ insert_row 3 97 ∷ line.Commit ∷ [])
-      ∷ (line.Begin ∷ line.Read (At (at 0)) ∷ line.Commit ∷ []) ∷ [])
+    (line.Begin ∷ insert_row 3 97 ∷ line.Commit ∷ [])
+    ∷ (line.Begin ∷ line.Read (At (at 0)) ∷ line.Commit ∷ []) ∷ [])
     (turns 2 4 ∷ turns 1 8 ∷ turns 2 3 ∷ [])
 
 locked_slot_stays_vacant : (printed of_reader ≡ began 2 1 ∷ replies_with 2 replies.NoRow ∷ began 1 2 ∷ inserted 1 1 ∷ committed 1 ∷ committed 2 ∷ []) × (fullness of_reader ≡ (11, 0))
@@ -218,8 +218,8 @@ locked_slot_stays_vacant = (refl, refl)
 
 -- Session 1 is older and waits for session 2, which then asks for a row that session 1 has locked, and dies.
 older_waits_younger_dies : printed (run 1 (
-      (line.Begin ∷ insert_row 1 97 ∷ line.Insert 1 (replicate 1 98) ∷ line.Commit ∷ line.Begin ∷ line.Update (At (at 0)) (replicate 1 99) ∷ line.Read (At (at 1)) ∷ line.Commit ∷ [])
-      ∷ (line.Begin ∷ line.Update (At (at 1)) (replicate 1 100) ∷ line.Read (At (at 0)) ∷ line.Commit ∷ []) ∷ [])
+    (line.Begin ∷ insert_row 1 97 ∷ line.Insert 1 (replicate 1 98) ∷ line.Commit ∷ line.Begin ∷ line.Update (At (at 0)) (replicate 1 99) ∷ line.Read (At (at 1)) ∷ line.Commit ∷ [])
+    ∷ (line.Begin ∷ line.Update (At (at 1)) (replicate 1 100) ∷ line.Read (At (at 0)) ∷ line.Commit ∷ []) ∷ [])
     (turns 1 17 ∷ turns 2 5 ∷ turns 1 1 ∷ turns 2 5 ∷ turns 2 1 ∷ turns 1 6 ∷ [])) ≡
     began 1 1 ∷ inserted 1 0 ∷ inserted 1 1 ∷ committed 1 ∷ began 1 2 ∷ replies_with 1 replies.Updated ∷ began 2 3 ∷ replies_with 2 replies.Updated
     ∷ waits_for 1 3 ∷ replies_with 2 (replies.Died (record { 0 = 2 })) ∷ replies_with 2 replies.Skipped ∷ replies_with 1 (replies.Row (replicate 1 98)) ∷ committed 1 ∷ []
@@ -228,7 +228,7 @@ older_waits_younger_dies = refl
 
 -- Session 2's third turn wants the page that session 1 has latched: it is answered again, and prints nothing.
 one_latch_at_a_time : printed (run 1 (
-      (line.Begin ∷ insert_row 1 97 ∷ line.Commit ∷ []) ∷ (line.Begin ∷ insert_row 1 97 ∷ line.Commit ∷ []) ∷ [])
+    (line.Begin ∷ insert_row 1 97 ∷ line.Commit ∷ []) ∷ (line.Begin ∷ insert_row 1 97 ∷ line.Commit ∷ []) ∷ [])
     (turns 1 4 ∷ turns 2 3 ∷ turns 1 1 ∷ turns 2 3 ∷ turns 1 3 ∷ turns 2 3 ∷ [])) ≡
     began 1 1 ∷ began 2 2 ∷ inserted 1 0 ∷ inserted 2 1 ∷ committed 1 ∷ committed 2 ∷ []
 unfolding size_of
@@ -239,8 +239,8 @@ one_latch_at_a_time = refl
 -- an update that does not fit leaves the row; one that fits fills the page, and one of the same length fits too
 abbrev of_updater : Progress
 of_updater = run 1 (
-      (line.Begin ∷ insert_row 100 97 ∷ line.Insert 1 (replicate 3900 98) ∷ line.Update (Name 0) (replicate 173 99) ∷ line.Update (Name 0) (replicate 172 99)
-      ∷ line.Update (Name 0) (replicate 172 100) ∷ line.Commit ∷ []) ∷ [])
+    (line.Begin ∷ insert_row 100 97 ∷ line.Insert 1 (replicate 3900 98) ∷ line.Update (Name 0) (replicate 173 99) ∷ line.Update (Name 0) (replicate 172 99)
+    ∷ line.Update (Name 0) (replicate 172 100) ∷ line.Commit ∷ []) ∷ [])
     (turns 1 23 ∷ [])
 
 updates_in_place : (printed of_updater
@@ -251,8 +251,8 @@ updates_in_place = (refl, refl)
 
 -- what is not done
 refusals : printed (run 1 (
-      (line.Read (At (at 0)) ∷ line.Begin ∷ line.Read (At (record { page = 4; slot = 0 })) ∷ line.Read (At (at 1020)) ∷ line.Read (Name 16) ∷ line.Back 3 ∷ line.Read (At (at 1019))
-      ∷ line.Begin ∷ line.Commit ∷ []) ∷ [])
+    (line.Read (At (at 0)) ∷ line.Begin ∷ line.Read (At (record { page = 4; slot = 0 })) ∷ line.Read (At (at 1020)) ∷ line.Read (Name 16) ∷ line.Back 3 ∷ line.Read (At (at 1019))
+    ∷ line.Begin ∷ line.Commit ∷ []) ∷ [])
     (turns 1 13 ∷ [])) ≡
     replies_with 1 replies.Skipped ∷ began 1 1 ∷ replies_with 1 replies.BadRid ∷ replies_with 1 replies.BadRid ∷ replies_with 1 replies.Unbound
     ∷ replies_with 1 (replies.NoSavepoint 3) ∷ replies_with 1 replies.NoRow ∷ replies_with 1 replies.Skipped ∷ committed 1 ∷ []
@@ -263,8 +263,8 @@ refusals = refl
 
 -- Session 2 deletes 4,073 bytes and puts one back: its own undo needs 4,072 beside 5 in use, so that a new slot does not fit.
 own_need_counts : printed (run 1 (
-      (line.Begin ∷ insert_row 4073 97 ∷ line.Commit ∷ [])
-      ∷ (line.Begin ∷ line.Delete (At (at 0)) ∷ insert_row 1 98 ∷ insert_row 1 98 ∷ []) ∷ [])
+    (line.Begin ∷ insert_row 4073 97 ∷ line.Commit ∷ [])
+    ∷ (line.Begin ∷ line.Delete (At (at 0)) ∷ insert_row 1 98 ∷ insert_row 1 98 ∷ []) ∷ [])
     (turns 1 8 ∷ turns 2 12 ∷ [])) ≡
     began 1 1 ∷ inserted 1 0 ∷ committed 1 ∷ began 2 2 ∷ replies_with 2 replies.Deleted ∷ inserted 2 0 ∷ replies_with 2 replies.NoSpace ∷ []
 unfolding size_of
@@ -272,7 +272,7 @@ own_need_counts = refl
 
 -- Sessions 2 and 3 have read the row; session 1, which is older, waits for the older of them.
 waits_for_the_least : printed (run 1 (
-      (line.Begin ∷ line.Delete (At (at 0)) ∷ []) ∷ (line.Begin ∷ line.Read (At (at 0)) ∷ []) ∷ (line.Begin ∷ line.Read (At (at 0)) ∷ []) ∷ [])
+    (line.Begin ∷ line.Delete (At (at 0)) ∷ []) ∷ (line.Begin ∷ line.Read (At (at 0)) ∷ []) ∷ (line.Begin ∷ line.Read (At (at 0)) ∷ []) ∷ [])
     (turns 1 1 ∷ turns 2 4 ∷ turns 3 4 ∷ turns 1 1 ∷ [])) ≡
     began 1 1 ∷ began 2 2 ∷ replies_with 2 replies.NoRow ∷ began 3 3 ∷ replies_with 3 replies.NoRow ∷ waits_for 1 2 ∷ []
 unfolding size_of

@@ -1,10 +1,9 @@
 -- What the searches of a session's move find.
-use Rattle.std.proofs.Common.{◌≡◌, ◌⊎◌, inl, inr, ℕ, zero, suc, ◌+◌, ◌<◌, ◌≤◌, max, Bool, true, false, ◌||◌, cond, IsTrue, Option, Some, None, is_some, List, [], ◌∷◌, length, refl, sym, ap, subst, arith}
+use Rattle.std.proofs.Common.{◌≡◌, ◌⊎◌, inl, inr, ℕ, zero, suc, ◌+◌, ◌<◌, ◌≤◌, max, Bool, true, false, cond, IsTrue, Option, Some, None, is_some, leb, List, [], ◌∷◌, length, refl, ap, subst, arith}
 use Rattle.std.specs.Bool.{Decides}
 use Rattle.std.specs.Option.{unwrap_or}
-use Rattle.std.specs.Prelude.{nat_le, min}
 use Rattle.std.proofs.lemmas.Bool.{cases_eq, cases_lt, cond_both, leb-true, le-leb}
-use Rattle.std.proofs.lemmas.Bool.Decides.{not_from_Decides, Decides-like, Decides-not, Decides-and, Decides-or, Decides-eqb, Decides-ltb}
+use Rattle.std.proofs.lemmas.Bool.Decides.{not_from_Decides, Decides-like, Decides-not, Decides-and, Decides-or, Decides-eqb}
 use Rattle.std.proofs.lemmas.List.{get_or_past}
 use Rattle.rm_types.specs.declared.numbers.Rid.{Rid}
 use Rattle.rm_types.specs.declared.slots.Slot.{Slot}
@@ -18,8 +17,9 @@ use Rattle.rm_core.specs.Locks.{HasGrant, Blocks, Latches, Looks}
 use Rattle.rm_core.specs.May.{IsReading}
 use Rattle.rm_core.specs.Moves.{Bars}
 use Rattle.rm_core.specs.Searching.{IsHeld}
+use Rattle.rm_core.proofs.Quiet.{alone_has}
 use Rattle.rm_core.specs.State.{Savepoint, HasNumber, Stage, tries, fetches, sets, settles, prepares, compensates, reads, Seat, Grant, State, seat_at, empty_seat}
-use Rattle.rm_play.specs.Choosing.{first_from, least_with, blocks_it, blocker, is_vacant, is_free, past_locks, slot_for, latches_it, looks_at, is_reading, bars_it, first_barring, has_number}
+use Rattle.rm_play.specs.Choosing.{first_from, blocks_it, blocker, is_vacant, is_free, past_locks, slot_for, latches_it, looks_at, is_reading, bars_it, first_barring, has_number}
 
 -- ---- tests
 
@@ -27,7 +27,7 @@ use Rattle.rm_play.specs.Choosing.{first_from, least_with, blocks_it, blocker, i
 pub if_else : {X A : Type 0} (b : Bool) (x y : X) (Q : X → Type 0) → Decides b A → (A → Q x) → ((A → ⊥) → Q y) → Q (cond b x y)
 if_else b x y Q decides yes_it no_it = cond_both b x y Q (λ is. yes_it (decides.0 is)) (λ is. no_it (not_from_Decides b decides is))
 
-pub decides_le : (a b : ℕ) → Decides (nat_le a b) (a ≤ b)
+pub decides_le : (a b : ℕ) → Decides (leb a b) (a ≤ b)
 decides_le a b = (leb-true a b, le-leb a b)
 
 decides_never : Decides false ⊥
@@ -95,96 +95,76 @@ first_is_least test P decides from (suc n) = if_else (test from) _ _ (IsLeast (I
     ])
     (first_is_least test P decides (suc from) n))
 
+-- where each number that has the property is below n
+least_below : (test : ℕ → Bool) (P : ℕ → Type 0) → ((i : ℕ) → Decides (test i) (P i)) → (n : ℕ) → ((i : ℕ) → P i → i < n) → IsLeast P (first_from test 0 n)
+least_below test P decides n below =
+    least_by (In P 0 n) P _ (λ i is. is.2) (λ i is. (omega arith, omega (arith, below i is), is)) (first_is_least test P decides 0 n)
+
 -- ---- latches
 
 pub barring_is_least : (s : State) (k page : ℕ) → IsLeast (Bars s k page) (first_barring s k page)
 barring_is_least s k page =
     let seat : ℕ → Seat = seat_at s.seats in
-    least_by (In (Bars s k page) 0 (length s.seats)) (Bars s k page) _ (λ j is. is.2)
-    (λ j bars. elim (cases_lt j (length s.seats)) [
-      | inl below ↦ (omega arith, omega arith, bars)
-      | inr past ↦ elim (subst (λ (at : Seat). Latches at.stage page ⊎ ((IsReading (seat k).stage → ⊥) × Looks at.stage page)) (get_or_past s.seats j empty_seat past) bars.1) [
-        | inl never ↦ absurd never
-        | inr never ↦ absurd never.1
-      ]
+    let Barred : Seat → Type 0 = λ (at : Seat). Latches at.stage page ⊎ ((IsReading (seat k).stage → ⊥) × Looks at.stage page) in
+    least_below (bars_it s k page) (Bars s k page)
+    (λ j. Decides-and _ _ (Decides-not _ (Decides-eqb j k)) (Decides-or _ _ (decides_latches (seat j).stage page)
+    (Decides-and _ _ (Decides-not _ (decides_reading (seat k).stage)) (decides_looks (seat j).stage page))))
+    (length s.seats) (λ j bars. elim (cases_lt j (length s.seats)) [
+      | inl below ↦ below
+      | inr past ↦ elim (subst Barred (get_or_past s.seats j empty_seat past) bars.1) [ inl never ↦ absurd never | inr never ↦ absurd never.1 ]
     ])
-    (first_is_least (bars_it s k page) (Bars s k page)
-    (λ j. Decides-and _ _ (Decides-not _ (Decides-eqb j k)) (Decides-or _ _ (decides_latches (seat j).stage page) (Decides-and _ _ (Decides-not _ (decides_reading (seat k).stage)) (decides_looks (seat j).stage page))))
-    0 (length s.seats))
 
 -- ---- locks
+
+decides_blocks : (grants : List Grant) (other : ℕ) (rid : Rid) (alone : Bool) → Decides (blocks_it grants other rid alone) (Blocks grants other rid alone)
+decides_blocks [] other rid true = decides_never
+decides_blocks [] other rid false = decides_never
+decides_blocks (first ∷ grants) other rid true =
+    Decides-or _ _ (Decides-and _ _ (Decides-eqb first.txn other) (decides_place first.rid rid)) (decides_blocks grants other rid true)
+decides_blocks (first ∷ grants) other rid false = Decides-or _ _
+    (Decides-like _ (λ has. (has.1.0, has.1.1, has.0)) (λ has. (has.2, (has.0, has.1)))
+    (Decides-and _ _ (decides_true first.alone) (Decides-and _ _ (Decides-eqb first.txn other) (decides_place first.rid rid))))
+    (decides_blocks grants other rid false)
+
+has_below : (grants : List Grant) (txn : ℕ) (rid : Rid) → HasGrant grants txn rid → (txn < past_locks grants) × (rid.slot < past_locks grants)
+has_below [] txn rid has = absurd has
+has_below (first ∷ grants) txn rid (inl now) = let same : first.rid.slot ≡ rid.slot = ap (λ (r : Rid). r.slot) now.1 in omega (arith, now.0)
+has_below (first ∷ grants) txn rid (inr later) = omega (arith, has_below grants txn rid later)
+
+blocks_has : (grants : List Grant) (other : ℕ) (rid : Rid) (alone : Bool) → Blocks grants other rid alone → HasGrant grants other rid
+blocks_has grants other rid true blocks = blocks
+blocks_has grants other rid false blocks = alone_has grants other rid blocks
 
 -- another transaction's locks refuse one
 abbrev pub Keeps : List Grant → ℕ → Rid → Bool → ℕ → Type 0
 Keeps grants txn rid alone other = (other ≡ txn → ⊥) × Blocks grants other rid alone
 
--- the lock does, of one transaction
-abbrev Refuses : Grant → ℕ → Rid → Bool → Type 0
-Refuses first other rid alone = (first.txn ≡ other) × (first.rid ≡ rid) × IsTrue (alone || first.alone)
-
-one_blocks : (first : Grant) (grants : List Grant) (other : ℕ) (rid : Rid) (alone : Bool) → Refuses first other rid alone ⊎ Blocks grants other rid alone → Blocks (first ∷ grants) other rid alone
-one_blocks first grants other rid true (inl is) = inl (is.0, is.1)
-one_blocks first grants other rid true (inr is) = inr is
-one_blocks first grants other rid false is = is
-
-which_blocks : (first : Grant) (grants : List Grant) (other : ℕ) (rid : Rid) (alone : Bool) → Blocks (first ∷ grants) other rid alone → Refuses first other rid alone ⊎ Blocks grants other rid alone
-which_blocks first grants other rid true (inl is) = inl (is.0, is.1, refl)
-which_blocks first grants other rid true (inr is) = inr is
-which_blocks first grants other rid false is = is
-
-least_too : (P Q : ℕ → Type 0) (at : ℕ) (found : Option ℕ) → Q at → ((i : ℕ) → P i → Q i) → ((i : ℕ) → Q i → (at ≡ i) ⊎ P i) → IsLeast P found → IsLeast Q (Some (least_with at found))
-least_too P Q at None here to which none =
-    (here, λ lower less is. elim (which lower is) [ inl same ↦ absurd (omega arith) | inr more ↦ none lower more ])
-least_too P Q at (Some other) here to which least = (
-  elim (cases_lt at other) [
-    | inl less ↦ let same : at ≡ min at other = omega arith in subst Q same here
-    | inr more ↦ let same : other ≡ min at other = omega arith in subst Q same (to other least.0)
-  ],
-  λ lower less is. elim (which lower is) [ inl same ↦ absurd (omega arith) | inr more ↦ least.1 lower (omega arith) more ],
-)
-
 pub blocker_is_least : (grants : List Grant) (txn : ℕ) (rid : Rid) (alone : Bool) → IsLeast (Keeps grants txn rid alone) (blocker grants txn rid alone)
-blocker_is_least [] txn rid true = λ other keeps. keeps.1
-blocker_is_least [] txn rid false = λ other keeps. keeps.1
-blocker_is_least (first ∷ grants) txn rid alone =
-    let Other : ℕ → Type 0 = Keeps grants txn rid alone in
-    let All : ℕ → Type 0 = Keeps (first ∷ grants) txn rid alone in
-    let more : (other : ℕ) → Other other → All other = λ other keeps. (keeps.0, one_blocks first grants other rid alone (inr keeps.1)) in
-    if_else (blocks_it first txn rid alone) _ _ (IsLeast All)
-    (Decides-and _ _ (Decides-not _ (Decides-eqb first.txn txn)) (Decides-and _ _ (decides_place first.rid rid) (decides_true (alone || first.alone))))
-    (λ is. least_too Other All first.txn _ (is.0, one_blocks first grants first.txn rid alone (inl (refl, is.1.0, is.1.1))) more
-    (λ other keeps. elim (which_blocks first grants other rid alone keeps.1) [ inl this ↦ inl this.0 | inr later ↦ inr (keeps.0, later) ])
-    (blocker_is_least grants txn rid alone))
-    (λ not_it. least_by Other All _ more
-    (λ other keeps. elim (which_blocks first grants other rid alone keeps.1) [
-      | inl this ↦ absurd (not_it (subst (λ (n : ℕ). n ≡ txn → ⊥) (sym this.0) keeps.0, (this.1, this.2)))
-      | inr later ↦ (keeps.0, later)
-    ])
-    (blocker_is_least grants txn rid alone))
+blocker_is_least grants txn rid alone = least_below _ (Keeps grants txn rid alone)
+    (λ other. Decides-and _ _ (Decides-not _ (Decides-eqb other txn)) (decides_blocks grants other rid alone))
+    (past_locks grants) (λ other keeps. (has_below grants other rid (blocks_has grants other rid alone keeps.1)).0)
 
 -- ---- the slot for a row
 
-decides_held : (grants : List Grant) (txn page number : ℕ) → Decides (is_some (blocker grants txn (record { page = page; slot = number }) true)) (IsHeld grants txn page number)
+decides_held : (grants : List Grant) (txn page number : ℕ)
+    → Decides (is_some (blocker grants txn (record { page = page; slot = number }) true)) (IsHeld grants txn page number)
 decides_held grants txn page number =
     let rid : Rid = record { page = page; slot = number } in
     with_least (Keeps grants txn rid true) (λ found. Decides (is_some found) (IsHeld grants txn page number)) _ (blocker_is_least grants txn rid true)
     (λ none. (λ is. absurd cc, λ held. absurd (none held.0 (held.1, held.2))))
     (λ other keeps least. (λ is. (other, keeps.0, keeps.1), λ held. refl))
 
-has_below : (grants : List Grant) (txn : ℕ) (rid : Rid) → HasGrant grants txn rid → rid.slot < past_locks grants
-has_below [] txn rid has = absurd has
-has_below (first ∷ grants) txn rid (inl now) = let same : first.rid.slot ≡ rid.slot = ap (λ (r : Rid). r.slot) now.1 in omega arith
-has_below (first ∷ grants) txn rid (inr later) = omega (arith, has_below grants txn rid later)
-
 pub slot_is_for_row : (s : State) (seat : Seat) (page : ℕ) → IsSlotForRow (IsHeld s.grants seat.txn page) (page_of s.history page) (slot_for s seat page)
 slot_is_for_row s seat page =
     let slots : List Slot = page_of s.history page in
     let far : ℕ = max (length slots) (past_locks s.grants) in
     let Free : ℕ → Type 0 = λ (number : ℕ). (slot_at slots number ≡ Vacant) × (IsHeld s.grants seat.txn page number → ⊥) in
+    let free : Free far =
+    (get_or_past slots far Vacant (omega arith), λ held. omega (arith, (has_below s.grants held.0 (record { page = page; slot = far }) held.2).1)) in
     with_least (In Free 0 (far + 1)) (λ found. IsSlotForRow (IsHeld s.grants seat.txn page) slots (unwrap_or found 0)) _
-    (first_is_least (is_free s seat page) Free (λ number. Decides-and _ _ (decides_vacant (slot_at slots number)) (Decides-not _ (decides_held s.grants seat.txn page number))) 0 (far + 1))
-    (λ none. absurd (none far (omega arith, omega arith, (get_or_past slots far Vacant (omega arith),
-    λ held. let below = has_below s.grants held.0 (record { page = page; slot = far }) held.2 in omega arith))))
+    (first_is_least (is_free s seat page) Free
+    (λ number. Decides-and _ _ (decides_vacant (slot_at slots number)) (Decides-not _ (decides_held s.grants seat.txn page number))) 0 (far + 1))
+    (λ none. absurd (none far (omega arith, omega arith, free)))
     (λ number is least. record {
       vacant = is.2.0;
       free = is.2.1;

@@ -1,9 +1,15 @@
--- A session's move for an operation is one but for its free choices.
-use Rattle.std.proofs.Common.{◌≡◌, inl, inr, ℕ, ◌+◌, ◌^◌, ◌<◌, ◌≤◌, Bool, true, false, List, [], ◌∷◌, length, refl, sym, ap, subst, ◌∙◌, arith}
+-- A session's move for an operation is one but for its free choices: it is the chosen one, but for the log's room.
+use Rattle.std.proofs.Common.{◌≡◌, inl, inr, ℕ, ◌+◌, ◌-◌, ◌*◌, ◌^◌, ◌==◌, ◌<◌, ◌≤◌, max, cond, Bool, true, false, Option, Some, None, List, [], ◌∷◌, length, refl, sym, ap, subst, ◌∙◌, arith}
+use Rattle.std.specs.Bool.{Decides}
+use Rattle.std.specs.Prelude.{nat_lt, nat_le, ◌&&◌, if◌then◌else◌}
 use Rattle.std.proofs.lemmas.Bool.{cases_eq, cases_order}
+use Rattle.std.proofs.lemmas.Bool.Decides.{Decides-and, Decides-eqb, Decides-ltb}
+use Rattle.rm_types.specs.Formats.{category_bytes}
 use Rattle.rm_types.specs.declared.numbers.Rid.{Rid}
+use Rattle.rm_types.specs.declared.numbers.TheConstants.{MAX_SLOT}
 use Rattle.rm_types.specs.declared.slots.Slot.{Slot}
 use Rattle.rm_types.specs.declared.slots.Slot.TheVariants.{Vacant, Row}
+use Rattle.rm_types.specs.declared.slots.TheConstants.{CAPACITY}
 use Rattle.rm_model.specs.Pages.{slot_at}
 use Rattle.rm_model.specs.Categories.{category_of}
 use Rattle.rm_history.specs.Acts.{Change}
@@ -12,27 +18,29 @@ use Rattle.rm_history.specs.Pending.{pending_of}
 use Rattle.rm_history.specs.Room.{IsSlotForRow, RowFits, unreserved}
 use Rattle.rm_events.specs.declared.operations.Op.{Op}
 use Rattle.rm_events.specs.declared.operations.Op.TheVariants as ops
-use Rattle.rm_play.specs.Choices.{Takes, TakesAt, MayTake, IsMoveFor, erased, AsksRoom, IsAlike, MovesAreOne}
+use Rattle.rm_core.specs.Effects.{after}
 use Rattle.rm_core.specs.Kept.{Kept}
-use Rattle.rm_core.specs.Locks.{Asks, Blocks, IsInside}
-use Rattle.rm_core.specs.May.{Wants, MayLatch, IsBlockedBy, IsSkipped, SlotFits}
-use Rattle.rm_core.specs.Moves.{Setting, again, log_full, spent, IsBarredBy, IsSpent, Lacks, Bars, Move, turns, answered}
-use Rattle.rm_core.specs.Searching.{Scans, MayScan, MayEndScan, IsHeld, part_end}
-use Rattle.rm_core.specs.State.{undoes_all, returns, target_of, Stage, idle, seeks, wants, tries, reads, fetches, alters, sets, settles, forces, finishes}
+use Rattle.rm_core.specs.Locks.{Asks, IsInside}
+use Rattle.rm_core.specs.May.{Wants, IsBlockedBy, IsSkipped, IsSeated, May, SlotFits}
+use Rattle.rm_core.specs.Moves.{Setting, again, log_full, spent, Bars, IsBarredBy, IsSpent, Lacks, Move, turns, answered}
+use Rattle.rm_core.specs.Room.{CHANGE_COST, owed}
+use Rattle.rm_core.specs.Searching.{Scans, IsHeld, MayTry, part_end}
+use Rattle.rm_core.specs.Sizes.{end_of}
+use Rattle.rm_core.specs.State.{undoes_all, returns, target_of, Aim, Stage, idle, seeks, wants, tries, reads, fetches, alters, sets, settles, forces, finishes}
 use Rattle.rm_core.specs.State.{rolls, prepares, compensates, Seat, State, seat_at}
 use Rattle.rm_core.specs.Turns.{Turn, skip, unname, refuse, begin, scan, scan_last, latch, try, try_last, insert, lock, lock_alone, wait, die, fetch, miss, lack, alter}
 use Rattle.rm_core.specs.Turns.{settled, settle, commit, force, finish, abort, prepared, prepare, compensate, end, save, no_target, target, back}
-use Rattle.rm_play.proofs.Choices.{pick, Open, opens, scan_at, rid_on, fits_on, grows_on, try_at, set_at, block_at, lock_at, roll_at, undo_at, prepare_at, asked_at, skipped_or_not, due}
 use Rattle.rm_core.proofs.Runs.{run_kept}
-use Rattle.rm_play.proofs.Searching.{Decided, Sought, less_or_not, inside_or_not, number_or_not, Keeps, blocked_or_not, slot_for}
+use Rattle.rm_play.specs.Choices.{Takes, TakesAt, MayTake, IsMoveFor, erased, AsksRoom, IsAlike, MovesAreOne}
+use Rattle.rm_play.specs.Choosing.{slot_for, found_at, scanning, latching, latching_at, locking_against, locking, altering_to, rolling, preparing, compensating, outside, asking, chosen_at, chosen}
+use Rattle.rm_play.proofs.Finding.{if_else, decides_le, decides_number, IsLeast, In, first_is_least, barring_is_least, Keeps, blocker_is_least, slot_is_for_row}
 
-with_it : {P : Type 0} (is : Decided P) (turn other : Turn) → P → turn ≡ pick is turn other
-with_it (inl is) turn other holds = refl
-with_it (inr not) turn other holds = absurd (not holds)
+-- a test that is decided
+yes_it : {X A : Type 0} {b : Bool} {x : X} (y : X) → Decides b A → A → x ≡ cond b x y
+yes_it {X} {A} {b} {x} y decides is = if_else b x y (λ (z : X). x ≡ z) decides (λ holds. refl) (λ fails. absurd (fails is))
 
-without : {P : Type 0} (is : Decided P) (turn other : Turn) → (P → ⊥) → other ≡ pick is turn other
-without (inl is) turn other not = absurd (not is)
-without (inr not) turn other fails = refl
+no_it : {X A : Type 0} {b : Bool} {y : X} (x : X) → Decides b A → (A → ⊥) → y ≡ cond b x y
+no_it {X} {A} {b} {y} x decides not = if_else b x y (λ (z : X). y ≡ z) decides (λ holds. absurd (not holds)) (λ fails. refl)
 
 -- two numbers that are least with a property are one
 least_one : (P : ℕ → Type 0) (one other : ℕ) → P one → P other → ((lower : ℕ) → lower < one → P lower → ⊥) → ((lower : ℕ) → lower < other → P lower → ⊥) → one ≡ other
@@ -41,261 +49,258 @@ least_one P one other is has least lowest = elim (cases_order one other) [
   | inr differs ↦ elim differs [ inl less ↦ absurd (lowest one less is) | inr more ↦ absurd (least other more has) ]
 ]
 
-slot_one : (IsHeld : ℕ → Type 0) (slots : List Slot) (one other : ℕ) → IsSlotForRow IsHeld slots one → IsSlotForRow IsHeld slots other → one ≡ other
-slot_one IsHeld slots one other is has =
-    least_one (λ (n : ℕ). (slot_at slots n ≡ Vacant) × (IsHeld n → ⊥)) one other (is.vacant, is.free) (has.vacant, has.free)
-    (λ lower below w. is.least lower below w.0 w.1) (λ lower below w. has.least lower below w.0 w.1)
+found_one : (P : ℕ → Type 0) (one other : Option ℕ) → IsLeast P one → IsLeast P other → one ≡ other
+found_one P None None is has = refl
+found_one P None (Some j) is has = absurd (is j has.0)
+found_one P (Some i) None is has = absurd (has i is.0)
+found_one P (Some i) (Some j) is has = ap Some (least_one P i j is.0 has.0 is.1 has.1)
+
+-- the chosen move at an offset of 0, by the stage first
+abbrev pivot_at : Setting → State → ℕ → Op → Stage → Move
+pivot_at m s k op idle = if (seat_at s.seats k).txn == 0 then outside m s k 0 op else turns k (asking m s k 0 op)
+pivot_at m s k op stage = chosen_at m s k 0 op stage
+
+abbrev pivot : Setting → State → ℕ → Op → Move
+pivot m s k op = pivot_at m s k op (seat_at s.seats k).stage
 
 module _ (m : Setting) (s : State) (k : ℕ) (op : Op) where
   abbrev seat : Seat
   seat = seat_at s.seats k
 
-  -- the turn is the one that is due
-  abbrev Only : Turn → Type 0
-  Only turn = erased turn ≡ due m s k 0 op seat.stage
+  -- the move is the chosen one, but for its free choices
+  abbrev Is : Move → Type 0
+  Is move = move ≡ pivot m s k op
 
-  only_at : (stage : Stage) (turn : Turn) → seat.stage ≡ stage → turn ≡ due m s k 0 op stage → turn ≡ due m s k 0 op seat.stage
-  only_at stage turn at is = is ∙ ap (due m s k 0 op) (sym at)
+  -- the log's size with the turn is within the limit
+  abbrev need : Turn → ℕ
+  need turn = end_of (after m.format s k seat turn).history + CHANGE_COST + owed (after m.format s k seat turn)
 
-  only_asked : (o : Op) (turn : Turn) → seat.stage ≡ idle → op ≡ o → (IsSkipped seat o → ⊥) → turn ≡ asked_at m s k 0 o → turn ≡ due m s k 0 op seat.stage
-  only_asked o turn at same not is = only_at idle turn at (subst (λ (other : Op). turn ≡ due m s k 0 other idle) (sym same)
-      (is ∙ without (skipped_or_not m s k o) (skip o) (asked_at m s k 0 o) not))
+  at_stage : {stage : Stage} {move : Move} → seat.stage ≡ stage → move ≡ pivot_at m s k op stage → Is move
+  at_stage at is = is ∙ ap (pivot_at m s k op) (sym at)
 
-  taken : (turn : Turn) → seat.stage ≡ idle → MayTake m s k op turn → Takes turn op
-  taken turn at takes = subst (λ (st : Stage). TakesAt st turn op) at takes.takes
+  -- of an idle session, outside a transaction and in one
+  outside_is : {o : Op} {move : Move} → seat.stage ≡ idle → op ≡ o → seat.txn ≡ 0 → move ≡ outside m s k 0 o → Is move
+  outside_is at same none is = at_stage at (is ∙ ap (outside m s k 0) (sym same) ∙ yes_it _ (Decides-eqb seat.txn 0) none)
 
-  only_skip : (o : Op) → IsSkipped seat o → skip o ≡ due m s k 0 o idle
-  only_skip ops.Unbound is = absurd is
-  only_skip ops.Begin is = with_it (skipped_or_not m s k ops.Begin) (skip ops.Begin) (asked_at m s k 0 ops.Begin) is
-  only_skip o is = with_it (skipped_or_not m s k o) (skip o) (asked_at m s k 0 o) is
+  asked_is : {o : Op} {turn : Turn} → seat.stage ≡ idle → op ≡ o → (seat.txn ≡ 0 → ⊥) → turn ≡ asking m s k 0 o → Is (turns k turn)
+  asked_is at same some is = at_stage at (ap (turns k) (is ∙ ap (asking m s k 0) (sym same)) ∙ no_it _ (Decides-eqb seat.txn 0) some)
+
+  skip_is : (o : Op) → seat.stage ≡ idle → op ≡ o → IsSkipped seat o → Is (turns k (skip o))
+  skip_is ops.Unbound at same is = absurd is
+  skip_is ops.Begin at same is = asked_is at same is refl
+  skip_is o at same is = outside_is at same is refl
 
   -- ---- scans
 
-  scan_one : (row : List ℕ) (from to : ℕ) (found : Bool) (is : Sought (Open m s k row from)) → MayScan m.format m.pages s seat row from to found
-      → scan row from to found ≡ scan_at m s k row from is
-  scan_one row from to true (inl page) may =
-      let stop : to < part_end m.pages from = may.stops.0 in
-      ap (λ (p : ℕ). scan row from p true) (least_one (Open m s k row from) to page.at (may.forth, stop, may.stops.1) page.is (λ lower below is. is.2 (may.passed lower is.0 below)) page.least)
-  scan_one row from to true (inr none) may = absurd (none to (may.forth, may.stops.0, may.stops.1))
-  scan_one row from to false (inl page) may =
-      let stop : to ≡ part_end m.pages from = may.stops.0 in let below : page.at < part_end m.pages from = page.is.1 in absurd (page.is.2 (may.passed page.at page.is.0 (omega arith)))
-  scan_one row from to false (inr none) may =
-      let stop : to ≡ part_end m.pages from = may.stops.0 in
-      ap (λ (p : ℕ). scan row from p false) stop ∙ with_it (less_or_not (part_end m.pages from) m.pages) _ _ (let more : to < m.pages = may.stops.1 in omega arith)
+  abbrev Open : List ℕ → ℕ → Type 0
+  Open row page = category_bytes m.format * entry_of s.history page + length row ≤ CAPACITY
 
-  scan_last_one : (row : List ℕ) (from : ℕ) (is : Sought (Open m s k row from)) → MayEndScan m.format m.pages s seat row from → scan_last row from ≡ scan_at m s k row from is
-  scan_last_one row from (inl page) may = let below : page.at < part_end m.pages from = page.is.1 in absurd (page.is.2 (may.passed page.at page.is.0 (omega (arith, may.last))))
-  scan_last_one row from (inr none) may = without (less_or_not (part_end m.pages from) m.pages) _ _ (λ less. let last : part_end m.pages from ≡ m.pages = may.last in omega arith)
+  scan_from : (stage : Stage) (row : List ℕ) (from : ℕ) (turn : Turn) → seat.stage ≡ stage → (seat.txn ≡ 0 → ⊥) → Scans stage row from → (seat.stage ≡ idle → op ≡ ops.Insert row)
+      → turn ≡ scanning m s row from → Is (turns k turn)
+  scan_from idle row from turn at some scans inserts is = asked_is at (inserts at) some (is ∙ ap (scanning m s row) scans)
+  scan_from (seeks sought on) row from turn at some scans inserts is =
+      at_stage at (ap (turns k) (is ∙ ap (scanning m s row) (sym scans.1) ∙ ap (λ (r : List ℕ). scanning m s r on) (sym scans.0)))
+  scan_from other row from turn at some scans inserts is = absurd scans
 
-  only_scan : (stage : Stage) (row : List ℕ) (from : ℕ) (turn : Turn) → seat.stage ≡ stage → Scans stage row from → (stage ≡ idle → op ≡ ops.Insert row) → (seat.txn ≡ 0 → ⊥)
-      → turn ≡ scan_at m s k row from (opens m s k row from) → turn ≡ due m s k 0 op seat.stage
-  only_scan idle row from turn at scans takes some is =
-      only_asked (ops.Insert row) turn at (takes refl) some (subst (λ (n : ℕ). turn ≡ scan_at m s k row n (opens m s k row n)) scans is)
-  only_scan (seeks sought on) row from turn at scans takes some is =
-      only_at (seeks sought on) turn at (subst (λ (n : ℕ). turn ≡ scan_at m s k sought n (opens m s k sought n)) (sym scans.1)
-      (subst (λ (r : List ℕ). turn ≡ scan_at m s k r from (opens m s k r from)) (sym scans.0) is))
-  only_scan other row from turn at scans takes some is = absurd scans
+  scan_is : (row : List ℕ) (from : ℕ) (turn : Turn) (found : Option ℕ) → (seat.txn ≡ 0 → ⊥) → Scans seat.stage row from
+      → (seat.stage ≡ idle → op ≡ ops.Insert row) → IsLeast (In (Open row) from (part_end m.pages from - from)) found
+      → turn ≡ found_at m.pages (part_end m.pages from) row from found → Is (turns k turn)
+  scan_is row from turn found some at inserts least is =
+      let scans : turn ≡ scanning m s row from = is ∙ ap (found_at m.pages (part_end m.pages from) row from) (found_one _ _ _ least
+        (first_is_least _ (Open row) (λ page. decides_le (category_bytes m.format * entry_of s.history page + length row) CAPACITY) from (part_end m.pages from - from))) in
+      scan_from seat.stage row from turn refl some at inserts scans
 
   -- ---- locks
 
-  block_one : (o : Op) (rid : Rid) (alone : Bool) (turn : Turn) (holder : ℕ) (is : Sought (Keeps s.grants seat.txn rid alone)) → IsBlockedBy s seat rid alone holder
-      → pick (less_or_not seat.txn holder) (wait o rid alone holder) (die o rid alone holder) ≡ block_at m s k o rid alone turn is
-  block_one o rid alone turn holder (inl by) may = ap (λ (h : ℕ). pick (less_or_not seat.txn h) (wait o rid alone h) (die o rid alone h))
-      (least_one (Keeps s.grants seat.txn rid alone) holder by.at (may.other, may.blocks) by.is (λ lower below w. may.least lower below w.0 w.1) by.least)
-  block_one o rid alone turn holder (inr none) may = absurd (none holder (may.other, may.blocks))
+  asks_it : (o : Op) (rid : Rid) (alone : Bool) → Asks o rid alone → locking m s seat o rid alone ≡ asking m s k 0 o
+  asks_it (ops.Read place) rid alone asks = rw (← asks.0, asks.1) refl
+  asks_it (ops.Update place row) rid alone asks = rw (← asks.0, asks.1) refl
+  asks_it (ops.Delete place) rid alone asks = rw (← asks.0, asks.1) refl
+  asks_it other rid alone asks = absurd asks
 
-  block_none : (o : Op) (rid : Rid) (alone : Bool) (turn : Turn) (is : Sought (Keeps s.grants seat.txn rid alone)) → ((other : ℕ) → (other ≡ seat.txn → ⊥) → Blocks s.grants other rid alone → ⊥)
-      → turn ≡ block_at m s k o rid alone turn is
-  block_none o rid alone turn (inl by) free = absurd (free by.at by.is.0 by.is.1)
-  block_none o rid alone turn (inr none) free = refl
+  decides_inside : (rid : Rid) → Decides (nat_lt rid.page m.pages && nat_le rid.slot MAX_SLOT) (IsInside m.pages rid)
+  decides_inside rid = Decides-and _ _ (Decides-ltb rid.page m.pages) (decides_le rid.slot MAX_SLOT)
 
-  lock_one : (o : Op) (place rid : Rid) (alone wants_alone : Bool) (turn next : Turn) → place ≡ rid → alone ≡ wants_alone → turn ≡ lock_at m s k o rid alone next
-      → turn ≡ lock_at m s k o place wants_alone next
-  lock_one o place rid alone wants_alone turn next here same is =
-      subst (λ (b : Bool). turn ≡ lock_at m s k o place b next) same (subst (λ (r : Rid). turn ≡ lock_at m s k o r alone next) (sym here) is)
+  locked : (o : Op) (rid : Rid) (alone : Bool) (turn : Turn) (found : Option ℕ) → IsInside m.pages rid → IsLeast (Keeps s.grants seat.txn rid alone) found
+      → turn ≡ locking_against s seat o rid alone found → turn ≡ locking m s seat o rid alone
+  locked o rid alone turn found inside_it least is =
+      is ∙ ap (locking_against s seat o rid alone) (found_one _ _ _ least (blocker_is_least s.grants seat.txn rid alone)) ∙ yes_it _ (decides_inside rid) inside_it
 
-  only_lock : (o : Op) (rid : Rid) (alone : Bool) (turn : Turn) → seat.stage ≡ idle → o ≡ op → (seat.txn ≡ 0 → ⊥) → Asks o rid alone
-      → ((next : Turn) → turn ≡ lock_at m s k o rid alone next) → turn ≡ due m s k 0 op seat.stage
-  only_lock (ops.Read place) rid alone turn at same some asks is =
-      only_asked (ops.Read place) turn at (sym same) some (lock_one (ops.Read place) place rid alone false turn (lock place) asks.0 asks.1 (is (lock place)))
-  only_lock (ops.Update place row) rid alone turn at same some asks is =
-      only_asked (ops.Update place row) turn at (sym same) some (lock_one (ops.Update place row) place rid alone true turn (lock_alone place (Row row)) asks.0 asks.1 (is (lock_alone place (Row row))))
-  only_lock (ops.Delete place) rid alone turn at same some asks is =
-      only_asked (ops.Delete place) turn at (sym same) some (lock_one (ops.Delete place) place rid alone true turn (lock_alone place Vacant) asks.0 asks.1 (is (lock_alone place Vacant)))
-  only_lock other rid alone turn at same some asks is = absurd asks
-
-  locked : (o : Op) (rid : Rid) (alone : Bool) (turn next : Turn) → IsInside m.pages rid → turn ≡ block_at m s k o rid alone next (blocked_or_not s.grants seat.txn rid alone)
-      → turn ≡ lock_at m s k o rid alone next
-  locked o rid alone turn next inside is = is ∙ with_it (inside_or_not m.pages rid) _ _ inside
-
-  free_one : (o : Op) (rid : Rid) (alone : Bool) (turn : Turn) → IsInside m.pages rid → ((other : ℕ) → (other ≡ seat.txn → ⊥) → Blocks s.grants other rid alone → ⊥) → turn ≡ lock_at m s k o rid alone turn
-  free_one o rid alone turn inside free = locked o rid alone turn turn inside (block_none o rid alone turn (blocked_or_not s.grants seat.txn rid alone) free)
+  blocked : {rid : Rid} {alone : Bool} {holder : ℕ} → IsBlockedBy s seat rid alone holder → IsLeast (Keeps s.grants seat.txn rid alone) (Some holder)
+  blocked is = ((is.other, is.blocks), λ lower below keeps. is.least lower below keeps.0 keeps.1)
 
   -- ---- pages
 
-  only_latch : (stage : Stage) (page : ℕ) → Wants s seat stage page → latch page ≡ due m s k 0 op stage
-  only_latch (wants row on) page is = ap latch (sym is)
-  only_latch (reads rid) page is = ap latch (sym is)
-  only_latch (alters rid new) page is = ap latch (sym is)
-  only_latch (rolls aim) page is =
-      subst (λ (pending : List Change). latch page ≡ roll_at m s k 0 aim pending) (sym is.2) (ap latch (sym is.3) ∙ with_it (less_or_not (target_of aim) is.0.lsn) _ _ is.4)
-  only_latch other page is = absurd is
+  wanting : (stage : Stage) (page : ℕ) → seat.stage ≡ stage → Wants s seat stage page → Is (latching_at s k page)
+  wanting (wants row on) page at is = at_stage at (ap (latching_at s k) (sym is))
+  wanting (reads rid) page at is = at_stage at (ap (latching_at s k) (sym is))
+  wanting (alters rid new) page at is = at_stage at (ap (latching_at s k) (sym is))
+  wanting (rolls aim) page at is = at_stage at (subst (λ (pending : List Change). latching_at s k page ≡ rolling s k 0 aim pending) (sym is.2)
+      (ap (latching_at s k) (sym is.3) ∙ yes_it _ (Decides-ltb (target_of aim) is.0.lsn) is.4))
+  wanting other page at is = absurd is
 
-  slot_is : (page slot : ℕ) → IsSlotForRow (IsHeld s.grants seat.txn page) (page_of s.history page) slot → slot ≡ (rid_on m s k page).slot
-  slot_is page slot is = slot_one (IsHeld s.grants seat.txn page) (page_of s.history page) slot (rid_on m s k page).slot is (slot_for s.grants seat.txn page (page_of s.history page)).1
+  latching_is : (page : ℕ) (found : Option ℕ) → Wants s seat seat.stage page → IsLeast (Bars s k page) found → Is (latching s k page found)
+  latching_is page found wants_it least = ap (latching s k page) (found_one _ _ _ least (barring_is_least s k page)) ∙ wanting seat.stage page refl wants_it
 
-  try_one : (row : List ℕ) (page : ℕ) (turn : Turn) → (RowFits s.history seat.txn page (rid_on m s k page).slot (length row) → ⊥)
-      → turn ≡ pick (less_or_not (page + 1) m.pages) (try row page (rid_on m s k page).slot) (try_last row page (rid_on m s k page).slot) → turn ≡ try_at m s k 0 row page
-  try_one row page turn lacks is = is ∙ without (fits_on m s k row page) _ _ lacks
+  slot_is : (page slot : ℕ) → IsSlotForRow (IsHeld s.grants seat.txn page) (page_of s.history page) slot → slot ≡ slot_for s seat page
+  slot_is page slot is =
+      let has = slot_is_for_row s seat page in
+      least_one (λ (n : ℕ). (slot_at (page_of s.history page) n ≡ Vacant) × (IsHeld s.grants seat.txn page n → ⊥)) slot _ (is.vacant, is.free) (has.vacant, has.free)
+      (λ lower below free. is.least lower below free.0 free.1) (λ lower below free. has.least lower below free.0 free.1)
 
-  alter_one : (rid : Rid) (held slot : Slot) → SlotFits s.history seat.txn rid held slot → alter rid slot 0 ≡ set_at m s k 0 rid held slot
-  alter_one rid Vacant slot fits = absurd fits
-  alter_one rid (Row old) Vacant fits = refl
-  alter_one rid (Row old) (Row new) fits = with_it (grows_on m s k rid old new) _ _ fits
+  tries_is : (row : List ℕ) (page slot : ℕ) (turn : ℕ → Turn) → MayTry s seat row page slot
+      → turn (slot_for s seat page) ≡ cond (page + 1 == m.pages) (try_last row page (slot_for s seat page)) (try row page (slot_for s seat page)) → Is (turns k (turn slot))
+  tries_is row page slot turn may is =
+      let same : slot ≡ slot_for s seat page = slot_is page slot may.is_slot in
+      at_stage may.at (ap (λ (n : ℕ). turns k (turn n)) same ∙ ap (turns k) is
+      ∙ no_it _ (decides_le _ CAPACITY) (λ fits. may.lacks (subst (λ (n : ℕ). RowFits s.history seat.txn page n (length row)) (sym same) fits)))
 
-  lack_one : (rid : Rid) (held : Slot) (row : List ℕ) → (held ≡ Vacant → ⊥) → (SlotFits s.history seat.txn rid held (Row row) → ⊥)
-      → lack rid row (unreserved s.history seat.txn rid.page) ≡ set_at m s k 0 rid held (Row row)
-  lack_one rid Vacant row some not = absurd (some refl)
-  lack_one rid (Row old) row some not = without (grows_on m s k rid old row) _ _ not
+  alter_is : (rid : Rid) (held slot : Slot) → SlotFits s.history seat.txn rid held slot → need (alter rid slot 0) ≤ m.limit
+      → turns k (alter rid slot 0) ≡ altering_to m s k 0 rid held slot
+  alter_is rid Vacant slot fits room = absurd fits
+  alter_is rid (Row old) Vacant fits room = yes_it _ (decides_le _ m.limit) room
+  alter_is rid (Row old) (Row new) fits room = yes_it _ (decides_le _ m.limit) room ∙ yes_it _ (decides_le _ CAPACITY) fits
 
-  back_one : (number lsn : ℕ) (pending : List Change) → ((last : Change) (rest : List Change) → pending ≡ last ∷ rest → last.lsn ≤ lsn) → back number lsn ≡ roll_at m s k 0 (returns number lsn) pending
-  back_one number lsn [] below = refl
-  back_one number lsn (last ∷ rest) below = without (less_or_not lsn last.lsn) _ _ (λ above. let less : last.lsn ≤ lsn = below last rest refl in omega arith)
+  lack_is : (rid : Rid) (held : Slot) (row : List ℕ) → (held ≡ Vacant → ⊥) → (SlotFits s.history seat.txn rid held (Row row) → ⊥)
+      → turns k (lack rid row (unreserved s.history seat.txn rid.page)) ≡ altering_to m s k 0 rid held (Row row)
+  lack_is rid Vacant row some not = absurd (some refl)
+  lack_is rid (Row old) row some not = no_it _ (decides_le _ CAPACITY) not
+
+  back_is : (number lsn : ℕ) (pending : List Change) → ((last : Change) (rest : List Change) → pending ≡ last ∷ rest → last.lsn ≤ lsn)
+      → turns k (back number lsn) ≡ rolling s k 0 (returns number lsn) pending
+  back_is number lsn [] below = refl
+  back_is number lsn (last ∷ rest) below = no_it _ (Decides-ltb lsn last.lsn) (λ above. let less : last.lsn ≤ lsn = below last rest refl in omega arith)
 
   -- ---- each turn
 
-  only : Kept m.format s → (turn : Turn) → MayTake m s k op turn → Only turn
-  only kept (skip o) takes = only_at idle (skip o) takes.may.0 (subst (λ (other : Op). skip o ≡ due m s k 0 other idle) (taken (skip o) takes.may.0 takes) (only_skip o takes.may.1))
-  only kept unname takes = only_asked ops.Unbound unname takes.may (taken unname takes.may takes) (λ h. h) refl
-  only kept (refuse o rid) takes =
-      only_lock o rid takes.may.1.0 (refuse o rid) takes.may.0 (taken (refuse o rid) takes.may.0 takes) takes.seated takes.may.1.1 (λ next. without (inside_or_not m.pages rid) _ _ takes.may.2)
-  only kept (begin txn) takes =
-      let at : seat.stage ≡ idle = kept.bare k takes.may.0 in only_asked ops.Begin (begin txn) at (taken (begin txn) at takes) (λ some. some takes.may.0) (ap begin takes.may.1)
-  only kept (scan row from to found) takes =
-      only_scan seat.stage row from (scan row from to found) refl takes.may.at (λ at. taken (scan row from to found) at takes) takes.seated (scan_one row from to found (opens m s k row from) takes.may)
-  only kept (scan_last row from) takes =
-      only_scan seat.stage row from (scan_last row from) refl takes.may.at (λ at. taken (scan_last row from) at takes) takes.seated (scan_last_one row from (opens m s k row from) takes.may)
-  only kept (latch page) takes = only_latch seat.stage page takes.may.wants_it
-  only kept (try row page slot) takes =
-      let same : slot ≡ (rid_on m s k page).slot = slot_is page slot takes.may.0.is_slot in
-      only_at (tries row page) (try row page slot) takes.may.0.at (try_one row page (try row page slot)
-      (λ fits. takes.may.0.lacks (subst (λ (n : ℕ). RowFits s.history seat.txn page n (length row)) (sym same) fits)) (ap (try row page) same ∙ with_it (less_or_not (page + 1) m.pages) _ _ takes.may.1))
-  only kept (try_last row page slot) takes =
-      let same : slot ≡ (rid_on m s k page).slot = slot_is page slot takes.may.0.is_slot in
-      let last : page + 1 ≡ m.pages = takes.may.1 in
-      only_at (tries row page) (try_last row page slot) takes.may.0.at (try_one row page (try_last row page slot)
-      (λ fits. takes.may.0.lacks (subst (λ (n : ℕ). RowFits s.history seat.txn page n (length row)) (sym same) fits))
-      (ap (try_last row page) same ∙ without (less_or_not (page + 1) m.pages) _ _ (λ less. omega arith)))
-  only kept (insert row rid lsn) takes =
-      let same : rid.slot ≡ (rid_on m s k rid.page).slot = slot_is rid.page rid.slot takes.may.is_slot in
-      only_at (tries row rid.page) (insert row rid 0) takes.may.at (ap (λ (n : ℕ). insert row (record { page = rid.page; slot = n }) 0) same
-      ∙ with_it (fits_on m s k row rid.page) _ _ (subst (λ (n : ℕ). RowFits s.history seat.txn rid.page n (length row)) same takes.may.fits))
-  only kept (lock rid) takes =
-      only_asked (ops.Read rid) (lock rid) takes.may.at (taken (lock rid) takes.may.at takes) takes.seated (free_one (ops.Read rid) rid false (lock rid) takes.may.inside takes.may.free)
-  only kept (lock_alone rid Vacant) takes = only_asked (ops.Delete rid) (lock_alone rid Vacant) takes.may.at (taken (lock_alone rid Vacant) takes.may.at takes) takes.seated
-      (free_one (ops.Delete rid) rid true (lock_alone rid Vacant) takes.may.inside takes.may.free)
-  only kept (lock_alone rid (Row row)) takes = only_asked (ops.Update rid row) (lock_alone rid (Row row)) takes.may.at (taken (lock_alone rid (Row row)) takes.may.at takes) takes.seated
-      (free_one (ops.Update rid row) rid true (lock_alone rid (Row row)) takes.may.inside takes.may.free)
-  only kept (wait o rid alone holder) takes =
-      only_lock o rid alone (wait o rid alone holder) takes.may.0.at (taken (wait o rid alone holder) takes.may.0.at takes) takes.seated takes.may.2
-      (λ next. locked o rid alone (wait o rid alone holder) next takes.may.3 (with_it (less_or_not seat.txn holder) _ _ takes.may.1 ∙ block_one o rid alone next holder _ takes.may.0))
-  only kept (die o rid alone holder) takes =
-      let less : holder < seat.txn = takes.may.1 in
-      only_lock o rid alone (die o rid alone holder) takes.may.0.at (taken (die o rid alone holder) takes.may.0.at takes) takes.seated takes.may.2
-      (λ next. locked o rid alone (die o rid alone holder) next takes.may.3 (without (less_or_not seat.txn holder) _ _ (λ more. omega arith) ∙ block_one o rid alone next holder _ takes.may.0))
-  only kept (fetch rid slot) takes = only_at (fetches rid) (fetch rid slot) takes.may.0 (ap (fetch rid) takes.may.1)
-  only kept (miss rid slot) takes = only_at (sets rid slot) (miss rid slot) takes.may.0 (subst (λ (held : Slot). miss rid slot ≡ set_at m s k 0 rid held slot) (sym takes.may.1) refl)
-  only kept (lack rid row room) takes = only_at (sets rid (Row row)) (lack rid row room) takes.may.0 (ap (lack rid row) takes.may.3 ∙ lack_one rid _ row takes.may.1 takes.may.2)
-  only kept (alter rid slot lsn) takes = only_at (sets rid slot) (alter rid slot 0) takes.may.at (alter_one rid _ slot takes.may.fits)
-  only kept (settled outcome page) takes =
-      only_at (settles outcome page) (settled outcome page) takes.may.0 (with_it (cases_eq (entry_of s.history page) (category_of m.format (page_of s.history page))) _ _ takes.may.1)
-  only kept (settle outcome page lsn) takes =
-      only_at (settles outcome page) (settle outcome page 0) takes.may.at (without (cases_eq (entry_of s.history page) (category_of m.format (page_of s.history page))) _ _ takes.may.wrong)
-  only kept (commit lsn) takes = only_asked ops.Commit (commit 0) takes.may.0 (taken (commit lsn) takes.may.0 takes) takes.seated refl
-  only kept (force durable) takes = only_at forces (force 0) takes.may.0 refl
-  only kept finish takes = only_at finishes finish takes.may refl
-  only kept abort takes = only_asked ops.Abort abort takes.may (taken abort takes.may takes) takes.seated refl
-  only kept (prepared aim last) takes = only_at (prepares aim last.rid.page) (prepared aim last) takes.may.0
-      (subst (λ (pending : List Change). prepared aim last ≡ undo_at m s k (prepare_at m s k 0 aim) pending) (sym takes.may.1.1) (with_it (cases_eq _ _) _ _ takes.may.2))
-  only kept (prepare aim last lsn) takes = only_at (prepares aim last.rid.page) (prepare aim last 0) takes.may.at
-      (subst (λ (pending : List Change). prepare aim last 0 ≡ undo_at m s k (prepare_at m s k 0 aim) pending) (sym takes.may.next.1) (without (cases_eq _ _) _ _ takes.may.wrong))
-  only kept (compensate aim last lsn) takes = only_at (compensates aim last.rid.page) (compensate aim last 0) takes.may.0
-      (subst (λ (pending : List Change). compensate aim last 0 ≡ undo_at m s k (λ last. compensate aim last 0) pending) (sym takes.may.1.1) refl)
-  only kept (end outcome lsn) takes =
-      only_at (rolls (undoes_all outcome)) (end outcome 0) takes.may.0 (subst (λ (pending : List Change). end outcome 0 ≡ roll_at m s k 0 (undoes_all outcome) pending) (sym takes.may.1) refl)
-  only kept (save number) takes = only_asked (ops.Save number) (save number) takes.may (taken (save number) takes.may takes) takes.seated refl
-  only kept (no_target number) takes =
-      only_asked (ops.Back number) (no_target number) takes.may.0 (taken (no_target number) takes.may.0 takes) takes.seated (without (number_or_not seat.saves number) _ _ takes.may.1)
-  only kept (target number lsn) takes = only_asked (ops.Back number) (target number lsn) takes.may.0 (taken (target number lsn) takes.may.0 takes) takes.seated
-      (ap (target number) takes.may.2 ∙ with_it (number_or_not seat.saves number) _ _ takes.may.1)
-  only kept (back number lsn) takes = only_at (rolls (returns number lsn)) (back number lsn) takes.may.0 (back_one number lsn (pending_of s.history seat.txn) takes.may.1)
+  only : Kept m.format s → (turn : Turn) → (seat.stage ≡ idle → Takes turn op) → IsSeated seat turn → May m.format m.pages s k seat turn → need (erased turn) ≤ m.limit
+      → Is (turns k (erased turn))
+  only kept (skip o) takes some may room = skip_is o may.0 (sym (takes may.0)) may.1
+  only kept unname takes some may room = elim (cases_eq seat.txn 0) [
+    | inl none ↦ outside_is may (takes may) none refl
+    | inr other ↦ asked_is may (takes may) other refl
+  ]
+  only kept (refuse o rid) takes some may room =
+      asked_is may.0 (sym (takes may.0)) some (no_it _ (decides_inside rid) may.2 ∙ asks_it o rid may.1.0 may.1.1)
+  only kept (begin txn) takes some may room =
+      let at : seat.stage ≡ idle = kept.bare k may.0 in
+      let fits : need (begin s.next) ≤ m.limit = subst (λ (id : ℕ). need (begin id) ≤ m.limit) may.1 room in
+      outside_is at (takes at) may.0 (ap (λ (id : ℕ). turns k (begin id)) may.1 ∙ yes_it _ (decides_le _ m.limit) (omega (arith, fits))
+      ∙ no_it _ (Decides-eqb s.next (2 ^ 32)) (λ all. omega (arith, may.2, all)))
+  only kept (scan row from to true) takes some may room = scan_is row from _ (Some to) some may.at takes
+      ((may.forth, omega (arith, may.stops.0, may.forth), omega (arith, may.stops.1)), λ lower less is. absurd (omega (arith, is.2, may.passed lower is.0 less))) refl
+  only kept (scan row from to false) takes some may room = scan_is row from _ None some may.at takes
+      (λ page is. absurd (omega (arith, is.2, may.passed page is.0 (omega (arith, is.0, is.1, may.stops.0)))))
+      (ap (λ (p : ℕ). scan row from p false) may.stops.0 ∙ no_it _ (Decides-eqb (part_end m.pages from) m.pages) (λ last. omega (arith, may.stops.0, may.stops.1, last)))
+  only kept (scan_last row from) takes some may room = scan_is row from _ None some may.at takes
+      (λ page is. absurd (omega (arith, is.2, may.passed page is.0 (omega (arith, is.0, is.1, may.last))))) (yes_it _ (Decides-eqb (part_end m.pages from) m.pages) may.last)
+  only kept (latch page) takes some may room =
+      latching_is page None may.wants_it (λ j bars. elim bars.1 [ inl alone ↦ may.free j bars.0 alone | inr looks ↦ may.looked j bars.0 looks.0 looks.1 ])
+  only kept (try row page slot) takes some may room = tries_is row page slot (try row page) may.0 (no_it _ (Decides-eqb (page + 1) m.pages) (λ last. omega (arith, may.1, last)))
+  only kept (try_last row page slot) takes some may room = tries_is row page slot (try_last row page) may.0 (yes_it _ (Decides-eqb (page + 1) m.pages) may.1)
+  only kept (insert row rid lsn) takes some may room =
+      let same : rid.slot ≡ slot_for s seat rid.page = slot_is rid.page rid.slot may.is_slot in
+      let place : ℕ → Turn = λ (n : ℕ). insert row (record { page = rid.page; slot = n }) 0 in
+      at_stage may.at (ap (λ (n : ℕ). turns k (place n)) same
+      ∙ yes_it _ (decides_le _ m.limit) (subst (λ (n : ℕ). need (place n) ≤ m.limit) same room)
+      ∙ yes_it _ (decides_le _ CAPACITY) (subst (λ (n : ℕ). RowFits s.history seat.txn rid.page n (length row)) same may.fits))
+  only kept (lock rid) takes some may room = asked_is may.at (takes may.at) some
+      (locked (ops.Read rid) rid false (lock rid) None may.inside (λ other keeps. may.free other keeps.0 keeps.1) refl)
+  only kept (lock_alone rid Vacant) takes some may room = asked_is may.at (takes may.at) some
+      (locked (ops.Delete rid) rid true (lock_alone rid Vacant) None may.inside (λ other keeps. may.free other keeps.0 keeps.1) refl)
+  only kept (lock_alone rid (Row row)) takes some may room = asked_is may.at (takes may.at) some
+      (locked (ops.Update rid row) rid true (lock_alone rid (Row row)) None may.inside (λ other keeps. may.free other keeps.0 keeps.1) refl)
+  only kept (wait o rid alone holder) takes some may room = asked_is may.0.at (sym (takes may.0.at)) some
+      (locked o rid alone (wait o rid alone holder) (Some holder) may.3 (blocked may.0) (yes_it _ (Decides-ltb seat.txn holder) may.1) ∙ asks_it o rid alone may.2)
+  only kept (die o rid alone holder) takes some may room = asked_is may.0.at (sym (takes may.0.at)) some
+      (locked o rid alone (die o rid alone holder) (Some holder) may.3 (blocked may.0) (no_it _ (Decides-ltb seat.txn holder) (λ less. omega (arith, may.1, less))) ∙ asks_it o rid alone may.2)
+  only kept (fetch rid slot) takes some may room = at_stage may.0 (ap (λ (held : Slot). turns k (fetch rid held)) may.1)
+  only kept (miss rid slot) takes some may room = at_stage may.0 (ap (λ (held : Slot). altering_to m s k 0 rid held slot) (sym may.1))
+  only kept (lack rid row room_left) takes some may room = at_stage may.0 (ap (λ (n : ℕ). turns k (lack rid row n)) may.3 ∙ lack_is rid _ row may.1 may.2)
+  only kept (alter rid slot lsn) takes some may room = at_stage may.at (alter_is rid _ slot may.fits room)
+  only kept (settled outcome page) takes some may room = at_stage may.0 (ap (turns k) (yes_it _ (Decides-eqb _ _) may.1))
+  only kept (settle outcome page lsn) takes some may room = at_stage may.at (ap (turns k) (no_it _ (Decides-eqb _ _) may.wrong))
+  only kept (commit lsn) takes some may room = asked_is may.0 (takes may.0) some refl
+  only kept (force durable) takes some may room = at_stage may.0 refl
+  only kept finish takes some may room = at_stage may refl
+  only kept abort takes some may room = asked_is may (takes may) some refl
+  only kept (prepared aim last) takes some may room =
+      at_stage may.0 (ap (turns k) (yes_it _ (Decides-eqb _ _) may.2 ∙ ap (preparing m s 0 aim) (sym may.1.1)))
+  only kept (prepare aim last lsn) takes some may room =
+      at_stage may.at (ap (turns k) (no_it _ (Decides-eqb _ _) may.wrong ∙ ap (preparing m s 0 aim) (sym may.next.1)))
+  only kept (compensate aim last lsn) takes some may room = at_stage may.0 (ap (λ (pending : List Change). turns k (compensating 0 aim pending)) (sym may.1.1))
+  only kept (end outcome lsn) takes some may room = at_stage may.0 (ap (rolling s k 0 (undoes_all outcome)) (sym may.1))
+  only kept (save number) takes some may room = asked_is may (takes may) some refl
+  only kept (no_target number) takes some may room = asked_is may.0 (takes may.0) some (no_it _ (decides_number seat.saves number) may.1)
+  only kept (target number lsn) takes some may room =
+      asked_is may.0 (takes may.0) some (ap (target number) may.2 ∙ yes_it _ (decides_number seat.saves number) may.1)
+  only kept (back number lsn) takes some may room = at_stage may.0 (back_is number lsn (pending_of s.history seat.txn) may.1)
 
-  -- ---- moves
+  spent_is : (last : ℕ) → seat.stage ≡ idle → op ≡ ops.Begin → IsSpent s k → last + 1 ≡ s.next → Is (answered k (spent last))
+  spent_is last at same is before = let most : last ≡ 2 ^ 32 - 1 = omega (arith, is.1, before) in
+      outside_is at same is.0 (ap (λ (n : ℕ). answered k (spent n)) most ∙ yes_it _ (Decides-eqb s.next (2 ^ 32)) is.1)
 
-  -- what is made of nothing but these has no free choice
-  unlatched : (turn : Turn) (page : ℕ) → erased turn ≡ latch page → turn ≡ latch page
-  unlatched (latch on) page is = is
-  unlatched other page is = cc
+-- ---- moves
 
-  unbegun : (turn : Turn) (txn : ℕ) → erased turn ≡ begin txn → turn ≡ begin txn
-  unbegun (begin id) txn is = is
-  unbegun other txn is = cc
+-- the move that is chosen where the log has room: for a move that is refused room, its turn
+abbrev Chooses : Move → Move → Type 0
+Chooses (turns j turn) choice = turns j (erased turn) ≡ choice
+Chooses (answered j (log_full at)) choice = (turn : Turn) × AsksRoom (erased turn) × (turns j (erased turn) ≡ choice)
+Chooses (answered j answer) choice = answered j answer ≡ choice
+Chooses move choice = ⊥
 
-  not_barred : Kept m.format s → (turn : Turn) (by : ℕ) → MayTake m s k op turn → IsBarredBy s k by → ⊥
-  not_barred kept turn by takes is =
-      let latches : turn ≡ latch is.page = unlatched turn is.page (only kept turn takes ∙ sym (only_latch seat.stage is.page is.wants_it)) in
-      let may : MayLatch s k seat is.page = (subst (MayTake m s k op) latches takes).may in
-      elim is.bars.1 [ inl alone ↦ may.free by is.bars.0 alone | inr looks ↦ may.looked by is.bars.0 looks.0 looks.1 ]
+lacks_asks : (limit at : ℕ) (turn : Turn) (new : State) → Lacks limit at turn new → AsksRoom (erased turn)
+lacks_asks limit at (begin txn) new lacks = tt
+lacks_asks limit at (insert row rid lsn) new lacks = tt
+lacks_asks limit at (alter rid slot lsn) new lacks = tt
+lacks_asks limit at other new lacks = absurd lacks
 
-  not_spent : Kept m.format s → (turn : Turn) → MayTake m s k op turn → seat.stage ≡ idle → op ≡ ops.Begin → IsSpent s k → ⊥
-  not_spent kept turn takes at same is =
-      let begins : turn ≡ begin s.next = unbegun turn s.next (only kept turn takes ∙ sym (only_asked ops.Begin (begin s.next) at same (λ some. some is.0) refl)) in
-      let below : s.next < 2 ^ 32 = (subst (MayTake m s k op) begins takes).may.2 in omega (arith, is.1)
+asks_room : (turn : Turn) → AsksRoom (erased turn) → AsksRoom turn
+asks_room (begin txn) asks = asks
+asks_room other asks = asks
 
-  waits_for_none : (by : ℕ) → IsBarredBy s k by → seat.stage ≡ idle → ⊥
-  waits_for_none by is at = subst (λ (st : Stage). Wants s seat st is.page) at is.wants_it
+asks_too : (j i : ℕ) (turn other : Turn) → AsksRoom (erased turn) → turns j (erased turn) ≡ turns i (erased other) → AsksRoom other
+asks_too j i turn other asks both = let same : erased turn ≡ erased other = cc in asks_room other (subst AsksRoom same asks)
 
-  barred_one : (by other : ℕ) → IsBarredBy s k by → IsBarredBy s k other → by ≡ other
-  barred_one by other is has =
-      let same : latch is.page ≡ latch has.page = only_latch seat.stage is.page is.wants_it ∙ sym (only_latch seat.stage has.page has.wants_it) in
-      let page : is.page ≡ has.page = cc in
-      least_one (Bars s k has.page) by other (subst (λ (p : ℕ). Bars s k p by) page is.bars) has.bars (λ lower below bars. is.least lower below (subst (λ (p : ℕ). Bars s k p lower) (sym page) bars)) has.least
+alike : (move other choice : Move) → Chooses move choice → Chooses other choice → IsAlike move other
+alike (turns j turn) (turns i other) choice is has = (cc, cc)
+alike (turns j turn) (answered i (log_full at)) choice is has = let both = has.2 ∙ sym is in (cc, asks_too i j has.0 turn has.1 both)
+alike (answered j (log_full at)) (turns i turn) choice is has = let both = is.2 ∙ sym has in (cc, asks_too j i is.0 turn is.1 both)
+alike (answered j (log_full at)) (answered i (log_full end_at)) choice is has = let both = is.2 ∙ sym has.2 in cc
+alike (answered j (log_full at)) (answered i answer) choice is has = let never = is.2 ∙ sym has in absurd cc
+alike (answered j answer) (answered i (log_full at)) choice is has = let never = is ∙ sym has.2 in absurd cc
+alike (answered j (again by)) (answered i (again other)) choice is has = (cc, cc)
+alike (answered j (spent last)) (answered i (spent other)) choice is has = (cc, cc)
+alike (turns j turn) (answered i answer) choice is has = absurd cc
+alike (answered j answer) (turns i turn) choice is has = absurd cc
+alike (answered j answer) (answered i other) choice is has = absurd cc
+alike (turns j turn) other choice is has = has
+alike (answered j answer) other choice is has = has
+alike move other choice is has = is
 
-  same_turn : Kept m.format s → (turn other : Turn) → MayTake m s k op turn → MayTake m s k op other → erased turn ≡ erased other
-  same_turn kept turn other takes may = only kept turn takes ∙ sym (only kept other may)
+module _ (m : Setting) (s : State) (k : ℕ) (op : Op) (kept : Kept m.format s) where
+  abbrev limited : ℕ → Setting
+  limited limit = record { format = m.format; pages = m.pages; limit = limit }
 
-  lacks_asks : (limit at : ℕ) (turn : Turn) (new : State) → Lacks limit at turn new → AsksRoom (erased turn)
-  lacks_asks limit at (begin txn) new lacks = tt
-  lacks_asks limit at (insert row rid lsn) new lacks = tt
-  lacks_asks limit at (alter rid slot lsn) new lacks = tt
-  lacks_asks limit at other new lacks = absurd lacks
+  -- it is, under each limit from some number on
+  abbrev Enough : Move → ℕ → Type 0
+  Enough move enough = (limit : ℕ) → enough ≤ limit → Chooses move (pivot (limited limit) s k op)
 
-  asks_room : (turn : Turn) → AsksRoom (erased turn) → AsksRoom turn
-  asks_room (begin txn) asks = asks
-  asks_room other asks = asks
+  turn_chooses : (j : ℕ) (turn : Turn) → j ≡ k → MayTake m s k op turn → Enough (turns j turn) (need m s k op (erased turn))
+  turn_chooses j turn same take limit room = ap (λ (n : ℕ). turns n (erased turn)) same
+      ∙ only (limited limit) s k op kept turn (λ at. subst (λ (stage : Stage). TakesAt stage turn op) at take.takes) take.seated take.may room
 
-  alike : Kept m.format s → (move other : Move) → IsMoveFor m s k op move → IsMoveFor m s k op other → IsAlike move other
-  alike kept (turns j turn) (turns i other) is has = (is.0 ∙ sym has.0, same_turn kept turn other is.1 has.1)
-  alike kept (turns j turn) (answered i (log_full at)) is has =
-      (is.0 ∙ sym has.0, asks_room turn (subst AsksRoom (same_turn kept has.1.0 turn has.1.1 is.1) (lacks_asks m.limit at has.1.0 _ has.1.3)))
-  alike kept (turns j turn) (answered i (again by)) is has = not_barred kept turn by is.1 has.1
-  alike kept (turns j turn) (answered i (spent last)) is has = not_spent kept turn is.1 has.1 has.2 has.3
-  alike kept (turns j turn) other is has = has
-  alike kept (answered j (log_full at)) (turns i turn) is has =
-      (is.0 ∙ sym has.0, asks_room turn (subst AsksRoom (same_turn kept is.1.0 turn is.1.1 has.1) (lacks_asks m.limit at is.1.0 _ is.1.3)))
-  alike kept (answered j (log_full at)) (answered i (log_full end_at)) is has = is.0 ∙ sym has.0
-  alike kept (answered j (log_full at)) (answered i (again by)) is has = not_barred kept is.1.0 by is.1.1 has.1
-  alike kept (answered j (log_full at)) (answered i (spent last)) is has = not_spent kept is.1.0 is.1.1 has.1 has.2 has.3
-  alike kept (answered j (again by)) (turns i turn) is has = not_barred kept turn by has.1 is.1
-  alike kept (answered j (again by)) (answered i (log_full at)) is has = not_barred kept has.1.0 by has.1.1 is.1
-  alike kept (answered j (again by)) (answered i (again other)) is has = (is.0 ∙ sym has.0, barred_one by other is.1 has.1)
-  alike kept (answered j (again by)) (answered i (spent last)) is has = waits_for_none by is.1 has.1
-  alike kept (answered j (spent last)) (turns i turn) is has = not_spent kept turn has.1 is.1 is.2 is.3
-  alike kept (answered j (spent last)) (answered i (log_full at)) is has = not_spent kept has.1.0 has.1.1 is.1 is.2 is.3
-  alike kept (answered j (spent last)) (answered i (again by)) is has = waits_for_none by has.1 is.1
-  alike kept (answered j (spent last)) (answered i (spent other)) is has = (is.0 ∙ sym has.0, omega (arith, is.4, has.4))
-  alike kept (answered j answer) other is has = absurd has
-  alike kept other move is has = absurd is
+  chooses : (move : Move) → IsMoveFor m s k op move → (enough : ℕ) × Enough move enough
+  chooses (turns j turn) is = (_, turn_chooses j turn is.0 is.1)
+  chooses (answered j (log_full at)) is = (_, λ limit room. (is.1.0, lacks_asks m.limit at is.1.0 _ is.1.3, turn_chooses j is.1.0 is.0 is.1.1 limit room))
+  chooses (answered j (again by)) is =
+      (0, λ limit room. ap (λ (n : ℕ). answered n (again by)) is.0 ∙ latching_is (limited limit) s k op is.1.page (Some by) is.1.wants_it (is.1.bars, is.1.least))
+  chooses (answered j (spent last)) is =
+      (0, λ limit room. ap (λ (n : ℕ). answered n (spent last)) is.0 ∙ spent_is (limited limit) s k op last is.1 is.2 is.3 is.4)
+  chooses other is = absurd is
 
 pub moves_are_one : MovesAreOne
-moves_are_one m k op move other run is has = alike m.opening.setting m.state k op (run_kept m run) move other is has
+moves_are_one m k op move other run is has =
+    let one = chooses m.opening.setting m.state k op (run_kept m run) move is in
+    let two = chooses m.opening.setting m.state k op (run_kept m run) other has in
+    let limit : ℕ = max one.0 two.0 in alike move other _ (one.1 limit (omega arith)) (two.1 limit (omega arith))

@@ -1,6 +1,6 @@
 -- The move that a session makes for an operation, as a function of its one free choice: the offset at which the next record may stand, which
 -- is the LSN of its record, or how far the log is durable.
-use Rattle.std.specs.Prelude.{◌<◌, ℕ, zero, suc, ◌+◌, ◌-◌, ◌*◌, ◌^◌, ◌==◌, ◌&&◌, ◌||◌, not, nat_lt, nat_le, if◌then◌else◌, Bool, true, false, List, [], ◌∷◌, length, min, max, Option, Some, None, is_some}
+use Rattle.std.specs.Prelude.{◌<◌, ℕ, zero, suc, ◌+◌, ◌-◌, ◌*◌, ◌^◌, ◌==◌, ◌&&◌, ◌||◌, not, nat_lt, nat_le, if◌then◌else◌, Bool, true, false, List, [], ◌∷◌, length, max, Option, Some, None, is_some}
 use Rattle.std.specs.Option.{unwrap_or}
 use Rattle.rm_types.specs.declared.formats.Format.{Format}
 use Rattle.rm_types.specs.declared.numbers.Rid.{Rid}
@@ -18,13 +18,11 @@ use Rattle.rm_history.specs.Needs.{need_of}
 use Rattle.rm_history.specs.Pending.{pending_of}
 use Rattle.rm_history.specs.Room.{others_need, unreserved, growth_for}
 use Rattle.rm_history.specs.Undoing.{category_after}
-use Rattle.rm_history.specs.declared.TheConstants.{BATCH_HEADER}
 use Rattle.rm_events.specs.declared.operations.Op.{Op}
 use Rattle.rm_events.specs.declared.operations.Op.TheVariants as ops
 use Rattle.rm_core.specs.Effects.{after}
 use Rattle.rm_play.specs.Choices.{IsMoveFor}
 use Rattle.rm_core.specs.Moves.{Setting, again, log_full, spent, closed, Move, turns, answered, Moves}
-use Rattle.rm_core.specs.Outcomes.{Outcome}
 use Rattle.rm_core.specs.Room.{CHANGE_COST, owed}
 use Rattle.rm_core.specs.Searching.{part_end}
 use Rattle.rm_core.specs.Runs.{Machine, IsRun}
@@ -45,32 +43,31 @@ first_from test from (suc n) = if test from then Some from else first_from test 
 abbrev pub first_open : Format → History → ℕ → ℕ → ℕ → Option ℕ
 first_open format history len from stop = first_from (λ page. nat_le (category_bytes format * entry_of history page + len) CAPACITY) from (stop - from)
 
--- the least other transaction whose lock refuses one
-abbrev pub blocks_it : Grant → ℕ → Rid → Bool → Bool
-blocks_it grant txn rid alone = not (grant.txn == txn) && (is_same_place grant.rid rid && (alone || grant.alone))
+-- the other's locks refuse one on the row id, exclusive or not
+abbrev pub blocks_it : List Grant → ℕ → Rid → Bool → Bool
+blocks_it [] other rid alone = false
+blocks_it (first ∷ grants) other rid alone =
+    ((alone || first.alone) && ((first.txn == other) && is_same_place first.rid rid)) || blocks_it grants other rid alone
 
-abbrev pub least_with : ℕ → Option ℕ → ℕ
-least_with txn None = txn
-least_with txn (Some other) = min txn other
+-- past the transactions and the slots of all locks
+abbrev pub past_locks : List Grant → ℕ
+past_locks [] = 0
+past_locks (first ∷ grants) = max (max first.txn first.rid.slot + 1) (past_locks grants)
 
+-- the least other transaction whose locks do
 abbrev pub blocker : List Grant → ℕ → Rid → Bool → Option ℕ
-blocker [] txn rid alone = None
-blocker (first ∷ grants) txn rid alone =
-    if blocks_it first txn rid alone then Some (least_with first.txn (blocker grants txn rid alone)) else blocker grants txn rid alone
+blocker grants txn rid alone = first_from (λ other. not (other == txn) && blocks_it grants other rid alone) 0 (past_locks grants)
 
--- the first slot of a page that is vacant and not held by another's lock: one is, past the directory and past the slots of all locks
 abbrev pub is_vacant : Slot → Bool
 is_vacant slot.Vacant = true
 is_vacant (slot.Row row) = false
 
+-- the slot of the page is vacant, and not held by another's lock
 abbrev pub is_free : State → Seat → ℕ → ℕ → Bool
 is_free s seat page number =
     is_vacant (slot_at (page_of s.history page) number) && not (is_some (blocker s.grants seat.txn (record { page = page; slot = number }) true))
 
-abbrev pub past_locks : List Grant → ℕ
-past_locks [] = 0
-past_locks (first ∷ grants) = max (first.rid.slot + 1) (past_locks grants)
-
+-- the first such slot: there is one, past the directory and past the slots of all locks at the latest
 abbrev pub slot_for : State → Seat → ℕ → ℕ
 slot_for s seat page = unwrap_or (first_from (is_free s seat page) 0 (max (length (page_of s.history page)) (past_locks s.grants) + 1)) 0
 
@@ -105,7 +102,8 @@ row_fits s seat page number len =
     + others_need s.history seat.txn page + max len (need_of s.history seat.txn page)) CAPACITY
 
 abbrev pub growth_fits : State → Seat → ℕ → ℕ → Bool
-growth_fits s seat page growth = nat_le (used (page_of s.history page) + others_need s.history seat.txn page + max growth (need_of s.history seat.txn page)) CAPACITY
+growth_fits s seat page growth =
+    nat_le (used (page_of s.history page) + others_need s.history seat.txn page + max growth (need_of s.history seat.txn page)) CAPACITY
 
 abbrev pub has_number : {A : Type 0} → List (Savepoint A) → ℕ → Bool
 has_number [] number = false
@@ -187,12 +185,13 @@ abbrev pub compensating : ℕ → Aim → List Change → Turn
 compensating lsn aim [] = finish
 compensating lsn aim (last ∷ rest) = compensate aim last lsn
 
--- an idle session's, outside a transaction and in one
+-- outside a transaction
 abbrev pub outside : Setting → State → ℕ → ℕ → Op → Move
 outside m s k lsn ops.Unbound = turns k unname
 outside m s k lsn ops.Begin = beginning m s k lsn
 outside m s k lsn op = turns k (skip op)
 
+-- in one, of an idle session
 abbrev pub asking : Setting → State → ℕ → ℕ → Op → Turn
 asking m s k lsn ops.Unbound = unname
 asking m s k lsn ops.Begin = skip ops.Begin
@@ -205,11 +204,9 @@ asking m s k lsn (ops.Back number) = returning (seat_at s.seats k) number
 asking m s k lsn ops.Commit = commit lsn
 asking m s k lsn ops.Abort = abort
 
-abbrev pub asked_now : Setting → State → ℕ → ℕ → Op → Move
-asked_now m s k lsn op = if (seat_at s.seats k).txn == 0 then outside m s k lsn op else turns k (asking m s k lsn op)
-
+-- at a stage
 abbrev pub chosen_at : Setting → State → ℕ → ℕ → Op → Stage → Move
-chosen_at m s k lsn op idle = asked_now m s k lsn op
+chosen_at m s k lsn op idle = turns k (asking m s k lsn op)
 chosen_at m s k lsn op (seeks row from) = turns k (scanning m s row from)
 chosen_at m s k lsn op (wants row on) = latching_at s k on
 chosen_at m s k lsn op (tries row page) = trying m s k lsn row page
@@ -226,7 +223,7 @@ chosen_at m s k lsn op (prepares aim page) = turns k (preparing m s lsn aim (pen
 chosen_at m s k lsn op (compensates aim page) = turns k (compensating lsn aim (pending_of s.history (seat_at s.seats k).txn))
 
 abbrev pub chosen : Setting → State → ℕ → ℕ → Op → Move
-chosen m s k lsn op = chosen_at m s k lsn op (seat_at s.seats k).stage
+chosen m s k lsn op = if (seat_at s.seats k).txn == 0 then outside m s k lsn op else chosen_at m s k lsn op (seat_at s.seats k).stage
 
 -- what a session's move leaves
 abbrev pub state_after : Setting → State → Move → State
@@ -234,16 +231,12 @@ state_after m s (turns k turn) = after m.format s k (seat_at s.seats k) turn
 state_after m s (answered k (log_full at)) = closed s k
 state_after m s other = s
 
--- an LSN that the next record may get
-abbrev pub some_next : History → ℕ
-some_next [] = BATCH_HEADER
-some_next history = end_of history
-
 -- It is the session's move for the operation, at each offset at which the next record may stand.
 abbrev pub ChosenIsMove : Type 0
 ChosenIsMove = (m : Machine) (k lsn : ℕ) (op : Op) → IsRun m → k < length m.state.seats → IsNext m.state.history lsn
     → IsMoveFor m.opening.setting m.state k op (chosen m.opening.setting m.state k lsn op)
-    × Moves m.opening.setting m.state (chosen m.opening.setting m.state k lsn op) (state_after m.opening.setting m.state (chosen m.opening.setting m.state k lsn op))
+    × Moves m.opening.setting m.state (chosen m.opening.setting m.state k lsn op)
+    (state_after m.opening.setting m.state (chosen m.opening.setting m.state k lsn op))
 
 -- So each session has a move for each operation.
 abbrev pub MovesExist : Type 0

@@ -1,5 +1,5 @@
 -- The run of a script as a function of its free choices.
-use Rattle.std.specs.Prelude.{◌≡◌, ℕ, suc, ◌+◌, ◌<◌, Bool, true, false, List, [], ◌∷◌, length, option_map, Option, Some, None}
+use Rattle.std.specs.Prelude.{ℕ, suc, ◌+◌, ◌<◌, Bool, true, false, List, [], ◌∷◌, length, option_map, Option, Some, None}
 use Rattle.rm_history.specs.Acts.{History}
 use Rattle.rm_history.specs.declared.TheConstants.{BATCH_HEADER}
 use Rattle.rm_events.specs.declared.events.Actor.{Actor}
