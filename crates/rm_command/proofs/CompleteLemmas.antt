@@ -10,7 +10,8 @@ use Rattle.rm_outside.specs.Images.{Image}
 use Rattle.rm_outside.specs.Calls.{Facts, HasFailed}
 use Rattle.rm_master.specs.Slots.{IsMade}
 use Rattle.rm_session.specs.Session.{State}
-use Rattle.rm_plain.specs.Grammar.{IsTurns, IsWithinLimits}
+use Rattle.rm_plain.specs.Grammar.{IsTurns}
+use Rattle.rm_script.specs.Refusals.{IsWithinLimits}
 use Rattle.rm_plain.proofs.Turns.{none_wrong}
 use Rattle.rm_types.specs.declared.operations.Reply.{Reply}
 use Rattle.rm_history.specs.Logs.{Batch}

@@ -3,12 +3,13 @@ use Rattle.std.proofs.Common.{◌≡◌, ℕ, suc, ◌≤◌, List, [], ◌∷�
 use Rattle.std.proofs.lemmas.Grind.{flat_map-append}
 use Rattle.std.proofs.lemmas.List.{take-append-drop, take_at}
 use Rattle.rm_plain.specs.declared.lines.Line.{Line}
-use Rattle.rm_plain.specs.declared.lines.TheConstants.{MAX_BYTES}
+use Rattle.rm_script.specs.declared.limits.TheConstants.{MAX_BYTES}
 use Rattle.rm_plain.specs.declared.lines.Which.{Which}
 use Rattle.rm_plain.specs.declared.lines.Which.TheVariants as which
 use Rattle.rm_types.specs.declared.operations.Reply.{Reply}
 use Rattle.rm_session.specs.Session.{State, Run, fresh}
-use Rattle.rm_plain.specs.Grammar.{IsPlain, AreLines, IsWithinLimits, IsFirstWrong, IsWrong}
+use Rattle.rm_plain.specs.Grammar.{IsPlain, AreLines, IsFirstWrong, IsWrong}
+use Rattle.rm_script.specs.Refusals.{IsWithinLimits}
 use Rattle.rm_plain.specs.Texts.{text_of, texts_of}
 use Rattle.rm_session.proofs.Runs.{every_script_runs, runs_join}
 use Rattle.rm_outside.proofs.StreamLemmas.{Takes-none}

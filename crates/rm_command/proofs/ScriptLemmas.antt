@@ -2,7 +2,8 @@
 use Rattle.std.proofs.Common.{ℕ, Bool, true, false, List, [], Option, refl, inl, inr}
 use Rattle.std.specs.Prelude.{MatchBool}
 use Rattle.rm_plain.specs.declared.lines.Line.{Line}
-use Rattle.rm_plain.specs.Grammar.{IsTurns, IsWithinLimits}
+use Rattle.rm_plain.specs.Grammar.{IsTurns}
+use Rattle.rm_script.specs.Refusals.{IsWithinLimits}
 use Rattle.rm_outside.specs.Images.{Image}
 use Rattle.rm_outside.specs.Moments.{started}
 use Rattle.rm_outside.specs.Calls.{AllLeft, Facts}

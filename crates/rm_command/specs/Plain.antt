@@ -3,7 +3,8 @@ use Rattle.std.specs.Prelude.{◌≡◌, ℕ, List, [], ◌++◌, take, Option, 
 use Rattle.rm_plain.specs.declared.lines.Line.{Line}
 use Rattle.rm_types.specs.declared.operations.Reply.{Reply}
 use Rattle.rm_session.specs.Session.{State, Run, fresh}
-use Rattle.rm_plain.specs.Grammar.{IsPlain, IsFirstWrong, IsWithinLimits}
+use Rattle.rm_plain.specs.Grammar.{IsPlain, IsFirstWrong}
+use Rattle.rm_script.specs.Refusals.{IsWithinLimits}
 use Rattle.rm_plain.specs.Texts.{texts_of}
 use Rattle.rm_plain.specs.Refusals.{HasTooMuch}
 use Rattle.rm_command.specs.declared.plain.TheConstants.{PAGES}

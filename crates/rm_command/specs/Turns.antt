@@ -12,8 +12,10 @@ use Rattle.rm_outside.specs.Images.{Image, KeepsOthers}
 use Rattle.rm_outside.specs.Calls.{AllLeft, Facts, HasFailed}
 use Rattle.rm_model.specs.Object.{Rows}
 use Rattle.rm_session.specs.Session.{State, opened}
-use Rattle.rm_plain.specs.Grammar.{IsTurns, IsFirstWrongTurns, IsWithinLimits}
-use Rattle.rm_plain.specs.Texts.{turn_lines, unfinished_line}
+use Rattle.rm_plain.specs.Grammar.{IsTurns, IsFirstWrongTurns}
+use Rattle.rm_script.specs.Refusals.{IsWithinLimits}
+use Rattle.rm_plain.specs.Texts.{turn_lines}
+use Rattle.rm_script.specs.Texts.{unfinished_line}
 use Rattle.rm_history.specs.Rows.{rows_of_log}
 use Rattle.rm_history.specs.Counts.{commit_count}
 use Rattle.rm_history.specs.Batched.{acts_of_batches}

@@ -5,7 +5,7 @@ use Rattle.rm_types.specs.declared.numbers.TheConstants.{MAX_LOG}
 use Rattle.rm_outside.specs.Images.{Image}
 use Rattle.rm_outside.specs.Moments.{ComesBy}
 use Rattle.rm_outside.specs.Calls.{AllLeft, Facts, HasFailed}
-use Rattle.rm_plain.specs.Texts.{created_line, restart_line}
+use Rattle.rm_script.specs.Texts.{created_line, restart_line}
 use Rattle.rm_master.specs.Steps.{KeepsCopyAndLog}
 use Rattle.rm_master.specs.Slots.{IsMade, IsUnmade}
 use Rattle.rm_master.specs.Fresh.{IsFresh}

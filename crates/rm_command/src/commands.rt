@@ -4,7 +4,7 @@ ghost use Rattle.std.specs.Prelude.{◌≡◌, ◌≤◌, ℕ, [], ◌∷◌, ma
 ghost use Rattle.rm_types.specs.declared.numbers.TheConstants.{MAX_PAGES};
 ghost use Rattle.rm_command.specs.Commands.{Names};
 
-use rm_plain::number;
+use rm_script::number;
 use rm_types::MAX_PAGES;
 
 /// A command (docs/FORMATS.md, "Commands").

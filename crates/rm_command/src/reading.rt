@@ -6,7 +6,7 @@ ghost use Rattle.rm_command.specs.Reading.{Reads};
 
 use crate::stops::Stop;
 use rm_outside::Source;
-use rm_plain::MAX_BYTES;
+use rm_script::MAX_BYTES;
 use std::alloc::{AllocError, Global};
 
 /// The most bytes of one read.

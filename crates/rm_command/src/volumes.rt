@@ -12,7 +12,7 @@ use crate::writing::write_all;
 use rm_master::Master;
 use rm_outside::{Failed, Sink, Volume};
 use rm_restart::restart;
-use rm_plain::{created_text, restart_text};
+use rm_script::{created_text, restart_text};
 use rm_types::MAX_LOG;
 use std::alloc::Global;
 

@@ -1,7 +1,8 @@
 -- The first wrong line of a script for `turns`, by how far it was read.
 use Rattle.std.proofs.Common.{◌≡◌, ℕ, ◌+◌, List, [], ◌∷◌, ◌++◌, length, codes, refl, sym, ap, ◌∙◌, arith, append_assoc, append-nil, length-append}
 use Rattle.rm_plain.specs.declared.lines.Line.{Line}
-use Rattle.rm_plain.specs.Grammar.{AreLines, IsTurns, IsFirstWrongTurns, lines_of, session_texts}
+use Rattle.rm_plain.specs.Grammar.{AreLines, IsTurns, IsFirstWrongTurns, session_texts}
+use Rattle.rm_script.specs.Lines.{lines_of}
 use Rattle.rm_plain.proofs.WrongTurns.{begins_front, wrong_session, wrong_turns, wrong_finish, wrong_end}
 use Rattle.rm_plain.specs.Reading.{HasRead, LacksFirst, StopsAt}
 use Rattle.rm_plain.proofs.FirstLines.{length-AreLines}

@@ -1,20 +1,10 @@
 -- The definitions of the forms of scripts, at texts.
-use Rattle.std.proofs.Common.{◌≡◌, [], ◌∷◌, ◌++◌, inl, inr, codes, refl, lit≤, lit<, ap, sym}
+use Rattle.std.proofs.Common.{[], ◌∷◌, ◌++◌, inl, inr, codes, refl, lit≤, lit<, ap, sym}
 use Rattle.std.proofs.lemmas.Fmt.{decimal_digit}
 use Rattle.rm_plain.specs.declared.lines.Line.TheVariants as line
-use Rattle.rm_plain.specs.declared.lines.Target.TheVariants as target
-use Rattle.rm_plain.specs.Grammar.{IsLine, IsPlain, IsTurns, IsFirstWrongTurns, lines_of}
+use Rattle.rm_events.specs.declared.lines.Target.TheVariants as target
+use Rattle.rm_plain.specs.Grammar.{IsLine, IsPlain, IsTurns, IsFirstWrongTurns}
 use Rattle.rm_plain.proofs.WrongTurns.{begins_front, wrong_session, wrong_turns, wrong_end}
-
--- two LFs one after another end a line each, and the last line may lack its LF
-empty_line : lines_of (codes "a\n\nb") ≡ codes "a" ∷ [] ∷ codes "b" ∷ []
-empty_line = refl
-
-ended : lines_of (codes "a\n") ≡ codes "a" ∷ []
-ended = refl
-
-no_lines : lines_of (codes "") ≡ []
-no_lines = refl
 
 begins_and_commits : IsPlain (line.Begin ∷ line.Commit ∷ []) (codes "begin\ncommit")
 begins_and_commits = (refl, (refl, tt))

@@ -1,5 +1,3 @@
-pub mod CutLaws
-pub mod LinesOf
 pub mod Readings
 pub mod Turns
 pub mod WrongTurns
@@ -8,7 +6,4 @@ pub mod TextLines
 pub mod TextExamples
 pub mod FirstLines
 pub mod FirstTurns
-pub mod HexRows
-pub mod Numbers
-pub mod RowDigits
 pub mod Spellings

@@ -2,7 +2,7 @@
 use Rattle.std.proofs.Common.{◌≡◌, [], ◌∷◌, codes, refl}
 use Rattle.std.specs.Fmt.{digits}
 use Rattle.rm_types.specs.declared.operations.Reply.TheVariants as reply
-use Rattle.rm_plain.specs.Texts.{text_of, texts_of, turn_line, turn_lines, unfinished_line, created_line, restart_line}
+use Rattle.rm_plain.specs.Texts.{text_of, texts_of, turn_line, turn_lines}
 
 pub text_of-inserted : text_of (reply.Inserted (record { page = 3; slot = 14 })) ≡ codes "inserted 3.14\n"
 unfolding digits
@@ -28,15 +28,3 @@ turn_line-began = refl
 pub turn_lines-two : turn_lines 1 (reply.Row (10 ∷ 255 ∷ []) ∷ reply.NoRow ∷ []) ≡ codes "1 row 0aff\n1 norow\n"
 unfolding digits
 turn_lines-two = refl
-
-pub unfinished_line-three : unfinished_line 1 3 ≡ codes "1 unfinished 3\n"
-unfolding digits
-unfinished_line-three = refl
-
-pub created_line-most : created_line 16384 ≡ codes "created 16384\n"
-unfolding digits
-created_line-most = refl
-
-pub restart_line-some : restart_line 12 10 2 ≡ codes "records 12 applied 10 undone 2\n"
-unfolding digits
-restart_line-some = refl

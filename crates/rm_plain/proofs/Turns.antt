@@ -4,7 +4,8 @@ use Rattle.std.proofs.Common.{◌≡◌, ℕ, ◌<◌, List, [], ◌∷◌, ◌+
 use Rattle.std.proofs.lemmas.Bool.{cases_order}
 use Rattle.std.proofs.lemmas.List.{append_cancel_right}
 use Rattle.rm_plain.specs.declared.lines.Line.{Line}
-use Rattle.rm_plain.specs.Grammar.{AreLines, IsSessionForm, IsTurns, BeginsTurns, GoesWrong, IsFirstWrongTurns, lines_of, session_texts}
+use Rattle.rm_plain.specs.Grammar.{AreLines, IsSessionForm, IsTurns, BeginsTurns, GoesWrong, IsFirstWrongTurns, session_texts}
+use Rattle.rm_script.specs.Lines.{lines_of}
 use Rattle.rm_plain.specs.Laws.{TurnsReadingsAreOne}
 use Rattle.rm_plain.proofs.Readings.{same_lines}
 

@@ -1,47 +1,10 @@
 -- The forms of a script, the plain one and that of one session: which bytes spell which lines.
-use Rattle.std.specs.Prelude.{◌≡◌, ℕ, ◌+◌, ◌^◌, ◌≤◌, ◌<◌, ◌==◌, if◌then◌else◌, List, [], ◌∷◌, ◌++◌, length, replicate, codes, decimal, ◌⊎◌}
-use Rattle.std.specs.List.{AllByRecursion, onto_first}
+use Rattle.std.specs.Prelude.{◌≡◌, ℕ, ◌+◌, ◌<◌, List, [], ◌∷◌, ◌++◌, length, codes}
 use Rattle.rm_plain.specs.declared.lines.Line.{Line}
 use Rattle.rm_plain.specs.declared.lines.Line.TheVariants as line
-use Rattle.rm_plain.specs.declared.lines.Target.{Target}
-use Rattle.rm_plain.specs.declared.lines.Target.TheVariants as target
-use Rattle.rm_plain.specs.declared.lines.TheConstants.{MAX_BYTES, MAX_LINES}
-use Rattle.rm_types.specs.declared.rows.TheConstants.{MAX_ROW}
-use Rattle.rm_plain.specs.Texts.{hex_byte, hex, place}
-
--- the lines of the bytes, which end with LF; the last one may lack it
-abbrev pub lines_of : List ℕ → List (List ℕ)
-lines_of [] = []
-lines_of (byte ∷ bytes) = if byte == 10 then [] ∷ lines_of bytes else onto_first byte (lines_of bytes)
-
--- a row as a count, a star and a byte: that byte as often
-pub record IsRepeated (row text : List ℕ) : Type 0 where
-  pub count : ℕ
-  pub byte : ℕ
-  pub short : count ≤ MAX_ROW
-  pub is_byte : byte < 256
-  pub row_is : row ≡ replicate count byte
-  pub text_is : text ≡ decimal count ++ (codes "*" ++ hex_byte byte)
-
--- a row written out, which is not empty
-pub record IsWrittenOut (row text : List ℕ) : Type 0 where
-  pub nonempty : 0 < length row
-  pub short : length row ≤ MAX_ROW
-  pub are_bytes : AllByRecursion (λ byte. byte < 256) row
-  pub text_is : text ≡ hex row
-
--- the text spells the row
-abbrev pub IsRow : List ℕ → List ℕ → Type 0
-IsRow row text = IsRepeated row text ⊎ IsWrittenOut row text
-
--- a dollar sign and a letter, `a` for the first name
-abbrev pub name_text : ℕ → List ℕ
-name_text name = 36 ∷ (97 + name) ∷ []
-
--- the text spells the target
-abbrev pub IsTarget : Target → List ℕ → Type 0
-IsTarget (target.Name name) text = (name < 26) × (text ≡ name_text name)
-IsTarget (target.At rid) text = (rid.page < 2 ^ 32) × (rid.slot < 2 ^ 16) × (text ≡ place rid)
+use Rattle.rm_script.specs.Lines.{lines_of}
+use Rattle.rm_script.specs.Rows.{IsRow}
+use Rattle.rm_script.specs.Targets.{IsTarget, name_text}
 
 -- the text spells the line
 abbrev pub IsLine : Line → List ℕ → Type 0
@@ -105,8 +68,3 @@ pub record IsFirstWrongTurns (number : ℕ) (bytes : List ℕ) : Type 0 where
   pub begins : BeginsTurns right
   pub goes_wrong : GoesWrong right rest
   pub is_number : number ≡ length right + 1
-
--- the script is as long as a script may be
-pub record IsWithinLimits (bytes : List ℕ) : Type 0 where
-  pub few_bytes : length bytes ≤ MAX_BYTES
-  pub few_lines : length (lines_of bytes) ≤ MAX_LINES

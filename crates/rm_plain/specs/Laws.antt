@@ -1,11 +1,11 @@
 -- What holds of all scripts and texts.
-use Rattle.std.specs.Prelude.{◌≡◌, ◌≢◌, ℕ, ◌^◌, ◌<◌, List, [], ◌∷◌, ◌++◌}
-use Rattle.std.specs.List.{AllByRecursion}
+use Rattle.std.specs.Prelude.{◌≡◌, ℕ, ◌^◌, ◌<◌, List}
 use Rattle.rm_types.specs.declared.operations.Reply.{Reply}
 use Rattle.rm_types.specs.declared.operations.Reply.TheVariants as reply
 use Rattle.rm_plain.specs.declared.lines.Line.{Line}
 use Rattle.rm_plain.specs.Grammar.{IsPlain, IsTurns, IsFirstWrongTurns}
-use Rattle.rm_plain.specs.Texts.{text_of, turn_line, unfinished_line, created_line, restart_line}
+use Rattle.rm_plain.specs.Texts.{text_of, turn_line}
+use Rattle.rm_script.specs.Laws.{IsOneLine}
 
 -- no bytes spell two scripts
 abbrev pub ReadingsAreOne : Type 0
@@ -26,14 +26,7 @@ IsInRange (reply.Began id) = id.0 < 2 ^ 32
 IsInRange (reply.Inserted rid) = (rid.page < 2 ^ 32) × (rid.slot < 2 ^ 16)
 IsInRange other = Unit {0}
 
--- one LF, and that at the end
-abbrev pub IsOneLine : List ℕ → Type 0
-IsOneLine text = (prefix : List ℕ) × AllByRecursion (λ byte. byte ≢ 10) prefix × (text ≡ prefix ++ 10 ∷ [])
-
 -- each text is written as one line, where its numbers are in their ranges
 pub record TextsAreLines : Type 0 where
   pub reply : (answer : Reply) → IsInRange answer → IsOneLine (text_of answer)
   pub turn : (session : ℕ) (answer : Reply) → session < 2 ^ 8 → IsInRange answer → IsOneLine (turn_line session answer)
-  pub unfinished : (session txn : ℕ) → session < 2 ^ 8 → txn < 2 ^ 32 → IsOneLine (unfinished_line session txn)
-  pub created : (pages : ℕ) → pages < 2 ^ 32 → IsOneLine (created_line pages)
-  pub restart : (records applied undone : ℕ) → records < 2 ^ 64 → applied < 2 ^ 64 → undone < 2 ^ 64 → IsOneLine (restart_line records applied undone)

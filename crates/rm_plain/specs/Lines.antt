@@ -2,10 +2,10 @@ use Rattle.std.specs.Prelude.{List, Option, Some, None}
 use Rattle.rm_types.specs.declared.numbers.Rid.{Rid}
 use Rattle.rm_plain.specs.declared.lines.Line.{Line}
 use Rattle.rm_plain.specs.declared.lines.Line.TheVariants as line
-use Rattle.rm_plain.specs.declared.lines.Target.TheVariants as target
+use Rattle.rm_events.specs.declared.lines.Target.TheVariants as target
 use Rattle.rm_types.specs.declared.operations.Op.{Op}
 use Rattle.rm_types.specs.declared.operations.Op.TheVariants as op
-use Rattle.rm_plain.specs.Bindings.{bound_to}
+use Rattle.rm_events.specs.Names.{bound_to}
 
 -- a read of the row at this row id, where there is one
 abbrev pub read_of : Option Rid → Op

@@ -1,7 +1,8 @@
 -- How far a script has been read.
 use Rattle.std.specs.Prelude.{◌≡◌, ℕ, List, ◌∷◌, ◌++◌}
 use Rattle.rm_plain.specs.declared.lines.Line.{Line}
-use Rattle.rm_plain.specs.Grammar.{AreLines, IsWrong, lines_of}
+use Rattle.rm_plain.specs.Grammar.{AreLines, IsWrong}
+use Rattle.rm_script.specs.Lines.{lines_of}
 
 -- the lines are spelled before what is left of the bytes
 abbrev pub HasRead : List ℕ → List Line → List ℕ → Type 0

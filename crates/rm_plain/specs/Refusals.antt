@@ -2,8 +2,10 @@
 use Rattle.std.specs.Prelude.{ℕ, ◌<◌, ◌≤◌, List, length}
 use Rattle.rm_plain.specs.declared.lines.Which.{Which}
 use Rattle.rm_plain.specs.declared.lines.Which.TheVariants as which
-use Rattle.rm_plain.specs.declared.lines.TheConstants.{MAX_BYTES, MAX_LINES}
-use Rattle.rm_plain.specs.Grammar.{lines_of, IsFirstWrong, IsFirstWrongTurns, IsWithinLimits}
+use Rattle.rm_plain.specs.Grammar.{IsFirstWrong, IsFirstWrongTurns}
+use Rattle.rm_script.specs.declared.limits.TheConstants.{MAX_BYTES, MAX_LINES}
+use Rattle.rm_script.specs.Lines.{lines_of}
+use Rattle.rm_script.specs.Refusals.{IsWithinLimits}
 use Rattle.rm_plain.specs.declared.refused.ScriptRefused.{ScriptRefused}
 use Rattle.rm_plain.specs.declared.refused.ScriptRefused.TheVariants as refused
 

@@ -4,10 +4,8 @@ ghost use Rattle.std.specs.Prelude.{◌≡◌, ◌++◌, codes, IfOk, IfSome, If
 ghost use Rattle.rm_plain.specs.declared.lines.Line.{Line};
 ghost use Rattle.rm_plain.specs.Grammar.{IsLine, IsWrong};
 
-use crate::cuts::cut;
-use crate::fields::{name_of, target_of};
 use crate::lines::Line;
-use crate::rows::row_of;
+use rm_script::{cut, name_of, row_of, target_of};
 use rm_types::NoMemory;
 use std::alloc::Global;
 

@@ -1,14 +1,16 @@
 //! Reading a whole script.
 
-ghost use Rattle.std.specs.Prelude.{◌≡◌, ◌==◌, ◌<◌, ◌≤◌, [], ◌∷◌, length, count_by, IfOk, IfErr, IfSome, IfNone};
-ghost use Rattle.rm_plain.specs.Grammar.{IsPlain, IsTurns, IsWithinLimits, lines_of};
+ghost use Rattle.std.specs.Prelude.{◌≡◌, ◌∷◌, length, IfOk, IfErr, IfSome, IfNone};
+ghost use Rattle.rm_plain.specs.Grammar.{IsPlain, IsTurns};
+ghost use Rattle.rm_script.specs.Lines.{lines_of};
+ghost use Rattle.rm_script.specs.Refusals.{IsWithinLimits};
 ghost use Rattle.rm_plain.specs.Reading.{HasRead, LacksFirst, StopsAt};
 ghost use Rattle.rm_plain.specs.Refusals.{HasTooMuch, Refuses, RefusesTurns};
 
-use crate::cuts::cut;
 use crate::instructions::line_of;
-use crate::lines::{Line, MAX_BYTES, MAX_LINES, Script, Which};
+use crate::lines::{Line, Script, Which};
 use crate::refused::ScriptRefused;
+use rm_script::{MAX_BYTES, MAX_LINES, first_line, line_count};
 use rm_types::NoMemory;
 use std::alloc::Global;
 
@@ -71,37 +73,6 @@ fn count_within_limits(bytes: &[u8]) -> Result<usize, Which>
         return Err(Which::Lines);
     }
     Ok(count)
-}
-
-/// How many lines the bytes have.
-fn line_count(bytes: &[u8]) -> usize
-    requires { length bytes.now ≤ MAX_BYTES }
-    ensures { result ≡ length (lines_of bytes.now) }
-{
-    let Some(last) = bytes.last() else {
-        return 0;
-    };
-    let ends = line_ends(bytes);
-    if *last == b'\n' { ends } else { ends + 1 }
-}
-
-/// How many of the bytes end a line.
-fn line_ends(bytes: &[u8]) -> usize
-    ensures { result ≡ count_by (λ byte. byte == 10) bytes.now }
-{
-    bytes.iter().filter(|byte| **byte == b'\n').count()
-}
-
-/// The first line, without its end, and what stands after it, or `None` where nothing is left.
-fn first_line(bytes: &[u8]) -> Option<(&[u8], &[u8])>
-    ensures some { IfSome result (λ parts. lines_of bytes.now ≡ parts.0.now ∷ lines_of parts.1.now) }
-    ensures shorter { IfSome result (λ parts. length parts.1.now < length bytes.now) }
-    ensures none { IfNone result (bytes.now ≡ []) }
-{
-    if bytes.is_empty() {
-        return None;
-    }
-    Some(cut(b'\n', bytes).unwrap_or((bytes, &[])))
 }
 
 /// What stands after the first line, where that is `line`.

@@ -3,7 +3,7 @@
 use crate::texts::lines;
 use rm_command::{Status, run_command};
 use rm_memory::{MemSink, MemSource, MemVolume};
-use rm_plain::{MAX_BYTES, MAX_LINES};
+use rm_script::{MAX_BYTES, MAX_LINES};
 use rm_types::MAX_ROW;
 use std::alloc::{AllocError, Global};
 use std::test::Fail;

@@ -1,8 +1,8 @@
 use Rattle.std.proofs.Common.{◌+◌, ◌<◌, ◌≡◌, length, arith, ap}
 use Rattle.std.proofs.lemmas.Bool.Decides.{nat_tests}
 use Rattle.std.proofs.lemmas.List.{nil_from_length}
-use Rattle.rm_plain.specs.Grammar.{lines_of}
-use Rattle.rm_plain.proofs.FirstLines.{lines_are_left}
+use Rattle.rm_script.specs.Lines.{lines_of}
+use Rattle.rm_script.proofs.FirstLines.{lines_are_left}
 use Rattle.rm_plain.proofs.FirstTurns.{session_read, no_session, no_turns, no_finish, no_end, is_turns}
 use Rattle.rm_plain.proofs.reading.read_turns.Goals as goal
 

@@ -1,0 +1,16 @@
+pub mod CutLaws
+pub mod LinesOf
+pub mod FirstLines
+pub mod HexRows
+pub mod Numbers
+pub mod RowLaws
+pub mod TargetLaws
+pub mod OperationLaws
+pub mod TurnLaws
+pub mod WordsRead
+pub mod LinesRead
+pub mod SessionsRead
+pub mod ScriptRead
+pub mod ScriptLaws
+pub mod RowDigits
+pub mod TextLines

@@ -1,0 +1,12 @@
+pub mod Cuts
+pub mod Lines
+pub mod Rows
+pub mod Targets
+pub mod Operations
+pub mod Turns
+pub mod Grammar
+pub mod Refusals
+pub mod Reading
+pub mod Texts
+pub mod Parts
+pub mod Laws
