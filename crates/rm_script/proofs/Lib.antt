@@ -14,3 +14,5 @@ pub mod ScriptRead
 pub mod ScriptLaws
 pub mod RowDigits
 pub mod TextLines
+pub mod GrammarExamples
+pub mod TextExamples
