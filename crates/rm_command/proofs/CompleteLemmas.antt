@@ -4,14 +4,15 @@ use Rattle.std.proofs.lemmas.Bool.{true≢false}
 use Rattle.std.specs.Prelude.{MatchBool}
 use Rattle.rm_types.specs.declared.areas.Area.{Area}
 use Rattle.rm_types.specs.declared.areas.Area.TheVariants.{Log}
-use Rattle.rm_script.specs.declared.lines.Line.{Line}
-use Rattle.rm_script.specs.declared.lines.Which.TheVariants as which
+use Rattle.rm_plain.specs.declared.lines.Line.{Line}
+use Rattle.rm_plain.specs.declared.lines.Which.TheVariants as which
 use Rattle.rm_outside.specs.Images.{Image}
 use Rattle.rm_outside.specs.Calls.{Facts, HasFailed}
 use Rattle.rm_master.specs.Slots.{IsMade}
 use Rattle.rm_session.specs.Session.{State}
-use Rattle.rm_script.specs.Grammar.{IsTurns, IsWithinLimits}
-use Rattle.rm_script.proofs.Turns.{none_wrong}
+use Rattle.rm_plain.specs.Grammar.{IsTurns}
+use Rattle.rm_script.specs.Refusals.{IsWithinLimits}
+use Rattle.rm_plain.proofs.Turns.{none_wrong}
 use Rattle.rm_types.specs.declared.operations.Reply.{Reply}
 use Rattle.rm_history.specs.Logs.{Batch}
 use Rattle.rm_history.specs.Pending.{pending_of}

@@ -4,9 +4,9 @@ use Rattle.std.specs.Fmt.{digits}
 use Rattle.std.proofs.lemmas.Fmt.{decimal_is_IsNumeral, decimal_injective, first_decimal}
 use Rattle.std.proofs.lemmas.Str.Parse.{digit_at}
 use Rattle.rm_types.specs.declared.areas.Area.TheVariants as area
-use Rattle.rm_script.specs.declared.lines.Line.{Line}
-use Rattle.rm_script.specs.declared.lines.Line.TheVariants as line
-use Rattle.rm_script.specs.declared.lines.Which.TheVariants as which
+use Rattle.rm_plain.specs.declared.lines.Line.{Line}
+use Rattle.rm_plain.specs.declared.lines.Line.TheVariants as line
+use Rattle.rm_plain.specs.declared.lines.Which.TheVariants as which
 use Rattle.rm_types.specs.declared.numbers.TheConstants.{MAX_PAGES}
 use Rattle.rm_types.specs.declared.operations.Reply.{Reply}
 use Rattle.rm_types.specs.declared.operations.Reply.TheVariants as reply

@@ -2,19 +2,20 @@
 use Rattle.std.proofs.Common.{◌≡◌, ℕ, suc, ◌≤◌, List, [], ◌∷◌, ◌++◌, length, take, drop, Option, Some, None, refl, sym, ap, ◌∙◌, subst, append_assoc, append-nil, length-append, inl, inr, arith}
 use Rattle.std.proofs.lemmas.Grind.{flat_map-append}
 use Rattle.std.proofs.lemmas.List.{take-append-drop, take_at}
-use Rattle.rm_script.specs.declared.lines.Line.{Line}
-use Rattle.rm_script.specs.declared.lines.TheConstants.{MAX_BYTES}
-use Rattle.rm_script.specs.declared.lines.Which.{Which}
-use Rattle.rm_script.specs.declared.lines.Which.TheVariants as which
+use Rattle.rm_plain.specs.declared.lines.Line.{Line}
+use Rattle.rm_script.specs.declared.limits.TheConstants.{MAX_BYTES}
+use Rattle.rm_plain.specs.declared.lines.Which.{Which}
+use Rattle.rm_plain.specs.declared.lines.Which.TheVariants as which
 use Rattle.rm_types.specs.declared.operations.Reply.{Reply}
 use Rattle.rm_session.specs.Session.{State, Run, fresh}
-use Rattle.rm_script.specs.Grammar.{IsPlain, AreLines, IsWithinLimits, IsFirstWrong, IsWrong}
-use Rattle.rm_script.specs.Texts.{text_of, texts_of}
+use Rattle.rm_plain.specs.Grammar.{IsPlain, AreLines, IsFirstWrong, IsWrong}
+use Rattle.rm_script.specs.Refusals.{IsWithinLimits}
+use Rattle.rm_plain.specs.Texts.{text_of, texts_of}
 use Rattle.rm_session.proofs.Runs.{every_script_runs, runs_join}
 use Rattle.rm_outside.proofs.StreamLemmas.{Takes-none}
-use Rattle.rm_script.specs.Refusals.{Refuses, HasTooMuch}
-use Rattle.rm_script.specs.declared.refused.ScriptRefused.{ScriptRefused}
-use Rattle.rm_script.specs.declared.refused.ScriptRefused.TheVariants as refused
+use Rattle.rm_plain.specs.Refusals.{Refuses, HasTooMuch}
+use Rattle.rm_plain.specs.declared.refused.ScriptRefused.{ScriptRefused}
+use Rattle.rm_plain.specs.declared.refused.ScriptRefused.TheVariants as refused
 use Rattle.rm_command.specs.declared.plain.TheConstants.{PAGES}
 use Rattle.rm_command.specs.declared.statuses.Status.{Status}
 use Rattle.rm_command.specs.declared.statuses.Status.TheVariants as status

@@ -1,6 +1,6 @@
 -- What was read of a source.
 use Rattle.std.proofs.Common.{◌≡◌, ℕ, ◌<◌, List, [], length, Option, Some, None, refl, sym, ap, ◌∙◌, subst, append-nil, arith}
-use Rattle.rm_script.specs.declared.lines.TheConstants.{MAX_BYTES}
+use Rattle.rm_script.specs.declared.limits.TheConstants.{MAX_BYTES}
 use Rattle.rm_outside.specs.Streams.{Gives}
 use Rattle.rm_command.specs.Reading.{Reads}
 

@@ -3,10 +3,10 @@ use Rattle.std.proofs.Common.{◌≡◌, ℕ, List, [], ◌∷◌, ◌++◌, len
 use Rattle.std.proofs.lemmas.Grind.{flat_map-append}
 use Rattle.std.proofs.lemmas.List.{take-append-drop}
 use Rattle.std.proofs.Math.Seq.{take-length}
-use Rattle.rm_script.specs.declared.lines.Line.{Line}
+use Rattle.rm_plain.specs.declared.lines.Line.{Line}
 use Rattle.rm_types.specs.declared.operations.Reply.{Reply}
 use Rattle.rm_session.specs.Session.{State, Step}
-use Rattle.rm_script.specs.Texts.{text_of, texts_of}
+use Rattle.rm_plain.specs.Texts.{text_of, texts_of}
 use Rattle.rm_session.proofs.Runs.{run_goes_on}
 use Rattle.rm_outside.specs.Streams.{Takes}
 use Rattle.rm_outside.proofs.StreamLemmas.{Takes-none, Takes-append}

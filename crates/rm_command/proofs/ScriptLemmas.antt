@@ -1,15 +1,16 @@
 -- What is due for `turns`, by how far its script was read.
 use Rattle.std.proofs.Common.{ℕ, Bool, true, false, List, [], Option, refl, inl, inr}
 use Rattle.std.specs.Prelude.{MatchBool}
-use Rattle.rm_script.specs.declared.lines.Line.{Line}
-use Rattle.rm_script.specs.Grammar.{IsTurns, IsWithinLimits}
+use Rattle.rm_plain.specs.declared.lines.Line.{Line}
+use Rattle.rm_plain.specs.Grammar.{IsTurns}
+use Rattle.rm_script.specs.Refusals.{IsWithinLimits}
 use Rattle.rm_outside.specs.Images.{Image}
 use Rattle.rm_outside.specs.Moments.{started}
 use Rattle.rm_outside.specs.Calls.{AllLeft, Facts}
 use Rattle.rm_outside.proofs.StreamLemmas.{Takes-none}
-use Rattle.rm_script.specs.Refusals.{RefusesTurns}
-use Rattle.rm_script.specs.declared.refused.ScriptRefused.{ScriptRefused}
-use Rattle.rm_script.specs.declared.refused.ScriptRefused.TheVariants as refused
+use Rattle.rm_plain.specs.Refusals.{RefusesTurns}
+use Rattle.rm_plain.specs.declared.refused.ScriptRefused.{ScriptRefused}
+use Rattle.rm_plain.specs.declared.refused.ScriptRefused.TheVariants as refused
 use Rattle.rm_command.specs.declared.statuses.Status.{Status}
 use Rattle.rm_command.specs.declared.statuses.Status.TheVariants as status
 use Rattle.rm_command.specs.Status.{status_of}

@@ -1,7 +1,7 @@
 -- Where a session stands after its lines, and what its images have.
 use Rattle.std.proofs.Common.{◌≡◌, inl, inr, ℕ, ◌+◌, ◌≤◌, List, [], ◌∷◌, ◌++◌, Option, Some, refl, arith}
-use Rattle.rm_script.specs.declared.lines.Line.{Line}
-use Rattle.rm_script.specs.declared.lines.Line.TheVariants as line
+use Rattle.rm_plain.specs.declared.lines.Line.{Line}
+use Rattle.rm_plain.specs.declared.lines.Line.TheVariants as line
 use Rattle.rm_types.specs.declared.operations.Reply.{Reply}
 use Rattle.rm_outside.specs.Images.{Image}
 use Rattle.rm_outside.specs.Moments.{started, joined, weaker}

@@ -8,12 +8,12 @@ use Rattle.rm_types.specs.declared.areas.Area.{Area}
 use Rattle.rm_types.specs.declared.areas.Area.TheVariants.{Log}
 use Rattle.rm_types.specs.declared.faults.Fault.{Fault}
 use Rattle.rm_types.specs.declared.faults.Fault.TheVariants as fault
-use Rattle.rm_script.specs.declared.lines.Line.{Line}
+use Rattle.rm_plain.specs.declared.lines.Line.{Line}
 use Rattle.rm_types.specs.declared.numbers.TheConstants.{MAX_LOG}
 use Rattle.rm_types.specs.declared.numbers.TxnId.{TxnId}
 use Rattle.rm_types.specs.declared.operations.Reply.{Reply}
 use Rattle.rm_session.specs.Session.{Step}
-use Rattle.rm_script.specs.Texts.{turn_line, turn_lines}
+use Rattle.rm_plain.specs.Texts.{turn_line, turn_lines}
 use Rattle.rm_outside.proofs.StreamLemmas.{Takes-none, Takes-append}
 use Rattle.rm_engine.specs.declared.engine.Engine.{Engine}
 use Rattle.rm_engine.specs.declared.faults.TurnFault.{TurnFault}

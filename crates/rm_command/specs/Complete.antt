@@ -1,11 +1,12 @@
 -- How a command ends where nothing fails.
 use Rattle.std.specs.Prelude.{◌≡◌, ℕ, List, [], Option, Some, None, ◌⊎◌}
-use Rattle.rm_script.specs.declared.lines.Line.{Line}
+use Rattle.rm_plain.specs.declared.lines.Line.{Line}
 use Rattle.rm_types.specs.declared.numbers.TxnId.{TxnId}
 use Rattle.rm_outside.specs.Images.{Image}
 use Rattle.rm_outside.specs.Calls.{Facts}
 use Rattle.rm_master.specs.Slots.{IsMade}
-use Rattle.rm_script.specs.Grammar.{IsPlain, IsTurns, IsWithinLimits}
+use Rattle.rm_plain.specs.Grammar.{IsPlain, IsTurns}
+use Rattle.rm_script.specs.Refusals.{IsWithinLimits}
 use Rattle.rm_history.specs.Pending.{pending_of}
 use Rattle.rm_history.specs.Batched.{acts_of_batches}
 use Rattle.rm_restart.specs.Sound.{IsPlainImage}

@@ -1,11 +1,12 @@
 -- What the program prints for its words and its input, and why.
 use Rattle.std.specs.Prelude.{◌≡◌, ℕ, List, [], ◌++◌, take, Option, ◌⊎◌}
-use Rattle.rm_script.specs.declared.lines.Line.{Line}
+use Rattle.rm_plain.specs.declared.lines.Line.{Line}
 use Rattle.rm_types.specs.declared.operations.Reply.{Reply}
 use Rattle.rm_session.specs.Session.{State, Run, fresh}
-use Rattle.rm_script.specs.Grammar.{IsPlain, IsFirstWrong, IsWithinLimits}
-use Rattle.rm_script.specs.Texts.{texts_of}
-use Rattle.rm_script.specs.Refusals.{HasTooMuch}
+use Rattle.rm_plain.specs.Grammar.{IsPlain, IsFirstWrong}
+use Rattle.rm_script.specs.Refusals.{IsWithinLimits}
+use Rattle.rm_plain.specs.Texts.{texts_of}
+use Rattle.rm_plain.specs.Refusals.{HasTooMuch}
 use Rattle.rm_command.specs.declared.plain.TheConstants.{PAGES}
 use Rattle.rm_command.specs.declared.statuses.Status.{Status}
 use Rattle.rm_command.specs.declared.statuses.Status.TheVariants as status

@@ -1,6 +1,6 @@
 -- How far a source was read.
 use Rattle.std.specs.Prelude.{◌≡◌, ℕ, ◌≤◌, List, [], ◌++◌, length, Option, Some, None}
-use Rattle.rm_script.specs.declared.lines.TheConstants.{MAX_BYTES}
+use Rattle.rm_script.specs.declared.limits.TheConstants.{MAX_BYTES}
 
 -- the source has these bytes left, if it models them
 abbrev pub HasLeft : Option (List ℕ) → List ℕ → Type 0

@@ -1,9 +1,9 @@
 -- How far a session's replies were written.
 use Rattle.std.specs.Prelude.{◌≡◌, ℕ, List, [], ◌++◌, take, Option}
-use Rattle.rm_script.specs.declared.lines.Line.{Line}
+use Rattle.rm_plain.specs.declared.lines.Line.{Line}
 use Rattle.rm_types.specs.declared.operations.Reply.{Reply}
 use Rattle.rm_session.specs.Session.{State, Run}
-use Rattle.rm_script.specs.Texts.{texts_of}
+use Rattle.rm_plain.specs.Texts.{texts_of}
 use Rattle.rm_outside.specs.Streams.{Takes}
 
 -- The sink takes a prefix of a buffer, and the buffer keeps the rest.

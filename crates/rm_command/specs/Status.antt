@@ -2,12 +2,12 @@
 use Rattle.std.specs.Prelude.{ℕ, List, [], ◌++◌, codes, decimal}
 use Rattle.rm_types.specs.declared.areas.Area.{Area}
 use Rattle.rm_types.specs.declared.areas.Area.TheVariants as area
-use Rattle.rm_script.specs.declared.lines.Which.{Which}
-use Rattle.rm_script.specs.declared.lines.Which.TheVariants as which
+use Rattle.rm_plain.specs.declared.lines.Which.{Which}
+use Rattle.rm_plain.specs.declared.lines.Which.TheVariants as which
 use Rattle.rm_engine.specs.declared.faults.TurnFault.{TurnFault}
 use Rattle.rm_engine.specs.declared.faults.TurnFault.TheVariants as turn
-use Rattle.rm_script.specs.declared.refused.ScriptRefused.{ScriptRefused}
-use Rattle.rm_script.specs.declared.refused.ScriptRefused.TheVariants as refused
+use Rattle.rm_plain.specs.declared.refused.ScriptRefused.{ScriptRefused}
+use Rattle.rm_plain.specs.declared.refused.ScriptRefused.TheVariants as refused
 use Rattle.rm_types.specs.declared.faults.Fault.{Fault}
 use Rattle.rm_types.specs.declared.faults.Fault.TheVariants as fault
 use Rattle.rm_master.specs.declared.faults.CreateFault.{CreateFault}

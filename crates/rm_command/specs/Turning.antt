@@ -1,13 +1,13 @@
 -- How far the lines of a session on a volume were done, and their replies written.
 use Rattle.std.specs.Prelude.{◌≡◌, ℕ, false, List, ◌++◌, Option, MatchBool}
-use Rattle.rm_script.specs.declared.lines.Line.{Line}
+use Rattle.rm_plain.specs.declared.lines.Line.{Line}
 use Rattle.rm_types.specs.declared.operations.Reply.{Reply}
 use Rattle.rm_types.specs.declared.numbers.TheConstants.{MAX_LOG}
 use Rattle.rm_outside.specs.Images.{Image}
 use Rattle.rm_outside.specs.Calls.{AllLeft, Facts}
 use Rattle.rm_outside.specs.Streams.{Takes}
 use Rattle.rm_model.specs.Object.{Rows}
-use Rattle.rm_script.specs.Texts.{turn_lines}
+use Rattle.rm_plain.specs.Texts.{turn_lines}
 use Rattle.rm_engine.specs.declared.engine.Engine.{Engine}
 use Rattle.rm_engine.specs.At.{IsAt}
 use Rattle.rm_engine.specs.Numbers.{Used, used_of}

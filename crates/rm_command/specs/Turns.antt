@@ -1,8 +1,8 @@
 -- What is due for `turns`.
 use Rattle.std.specs.Prelude.{◌≡◌, ℕ, ◌+◌, ◌-◌, ◌≤◌, List, [], ◌++◌, length, take, slice_get, Option, Some, ◌⊎◌, if◌then◌else◌}
 use Rattle.rm_types.specs.declared.areas.Area.{Area}
-use Rattle.rm_script.specs.declared.lines.Line.{Line}
-use Rattle.rm_script.specs.declared.lines.Line.TheVariants as line
+use Rattle.rm_plain.specs.declared.lines.Line.{Line}
+use Rattle.rm_plain.specs.declared.lines.Line.TheVariants as line
 use Rattle.rm_types.specs.declared.operations.Reply.{Reply}
 use Rattle.rm_types.specs.declared.slots.Slot.{Slot}
 use Rattle.rm_types.specs.declared.numbers.TheConstants.{MAX_LOG}
@@ -12,12 +12,14 @@ use Rattle.rm_outside.specs.Images.{Image, KeepsOthers}
 use Rattle.rm_outside.specs.Calls.{AllLeft, Facts, HasFailed}
 use Rattle.rm_model.specs.Object.{Rows}
 use Rattle.rm_session.specs.Session.{State, opened}
-use Rattle.rm_script.specs.Grammar.{IsTurns, IsFirstWrongTurns, IsWithinLimits}
-use Rattle.rm_script.specs.Texts.{turn_lines, unfinished_line}
+use Rattle.rm_plain.specs.Grammar.{IsTurns, IsFirstWrongTurns}
+use Rattle.rm_script.specs.Refusals.{IsWithinLimits}
+use Rattle.rm_plain.specs.Texts.{turn_lines}
+use Rattle.rm_script.specs.Texts.{unfinished_line}
 use Rattle.rm_history.specs.Rows.{rows_of_log}
 use Rattle.rm_history.specs.Counts.{commit_count}
 use Rattle.rm_history.specs.Batched.{acts_of_batches}
-use Rattle.rm_script.specs.Refusals.{HasTooMuch}
+use Rattle.rm_plain.specs.Refusals.{HasTooMuch}
 use Rattle.rm_wal.specs.Tails.{LogValue}
 use Rattle.rm_restart.specs.Sound.{IsPlainImage}
 use Rattle.rm_restart.specs.Opening.{Opens}

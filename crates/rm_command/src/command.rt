@@ -22,7 +22,7 @@ use crate::turns::turns;
 use crate::volumes::{create, open};
 use crate::writing::write_all;
 use rm_outside::{Failed, Sink, Source, Volume};
-use rm_script::read_plain;
+use rm_plain::read_plain;
 use std::alloc::Global;
 
 /// Does the command `plain`, all but the line that explains a status.

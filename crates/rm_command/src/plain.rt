@@ -8,7 +8,7 @@ ghost use Rattle.rm_command.specs.Running.{Did, DidSome, DidAll, Broke};
 use crate::stops::Stop;
 use crate::writing::{flush, flush_if_long};
 use rm_outside::Sink;
-use rm_script::{Line, reply_text};
+use rm_plain::{Line, reply_text};
 use rm_session::Session;
 use rm_types::Lsn;
 use std::alloc::Global;

@@ -10,7 +10,7 @@ use itoa::Buffer;
 use rm_engine::TurnFault;
 use rm_master::CreateFault;
 use rm_restart::RestartFault;
-use rm_script::{ScriptRefused, Which};
+use rm_plain::{ScriptRefused, Which};
 use rm_types::{Area, Fault, TxnId};
 
 /// The most bytes that a status line has.

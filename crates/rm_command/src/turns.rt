@@ -2,12 +2,12 @@
 
 ghost use Rattle.std.specs.Prelude.{◌≡◌, ℕ, ◌≤◌, ◌^◌, ◌++◌, List, [], Option, IsTrue, OnOk, IfErr, IsErrOf, ◌⊎◌};
 ghost use Rattle.rm_types.specs.declared.areas.Area.TheVariants.{Log as log_area};
-ghost use Rattle.rm_script.specs.declared.lines.Line.{Line as Lines};
+ghost use Rattle.rm_plain.specs.declared.lines.Line.{Line as Lines};
 ghost use Rattle.rm_types.specs.declared.numbers.TheConstants.{MAX_LOG};
 ghost use Rattle.rm_outside.specs.Faults.{Rises};
 ghost use Rattle.rm_outside.specs.Calls.{facts_of, HasFailed, IsSynced, Writes};
 ghost use Rattle.rm_outside.specs.Images.{KeepsOthers};
-ghost use Rattle.rm_script.specs.Texts.{turn_line};
+ghost use Rattle.rm_plain.specs.Texts.{turn_line};
 ghost use Rattle.rm_engine.specs.Numbers.{IsReady};
 ghost use Rattle.rm_command.specs.Reading.{IsReadToEnd};
 ghost use Rattle.rm_command.specs.Running.{Moves};
@@ -22,7 +22,8 @@ use crate::writing::{flush, flush_if_long};
 use rm_engine::Engine;
 use rm_outside::{Failed, Sink, Source, Volume};
 use rm_restart::restart;
-use rm_script::{Line, read_turns, turn_text, unfinished_text};
+use rm_plain::{Line, read_turns, turn_text};
+use rm_script::unfinished_text;
 use rm_session::Session;
 use rm_types::{MAX_LOG, Reply, TxnId};
 use std::alloc::Global;

@@ -1,15 +1,15 @@
 -- A step of the session changes it by its line and its reply.
 use Rattle.std.proofs.Common.{◌≡◌, Option, Some, None}
 use Rattle.rm_types.specs.declared.numbers.Rid.{Rid}
-use Rattle.rm_script.specs.declared.lines.Line.{Line}
-use Rattle.rm_script.specs.declared.lines.Line.TheVariants as line
-use Rattle.rm_script.specs.declared.lines.Target.{Target}
-use Rattle.rm_script.specs.declared.lines.Target.TheVariants as target
+use Rattle.rm_plain.specs.declared.lines.Line.{Line}
+use Rattle.rm_plain.specs.declared.lines.Line.TheVariants as line
+use Rattle.rm_events.specs.declared.lines.Target.{Target}
+use Rattle.rm_events.specs.declared.lines.Target.TheVariants as target
 use Rattle.rm_types.specs.declared.operations.Op.TheVariants as op
 use Rattle.rm_types.specs.declared.operations.Reply.{Reply}
 use Rattle.rm_types.specs.declared.operations.Reply.TheVariants as reply
-use Rattle.rm_script.specs.Bindings.{bound_to}
-use Rattle.rm_script.specs.Lines.{read_of}
+use Rattle.rm_events.specs.Names.{bound_to}
+use Rattle.rm_plain.specs.Lines.{read_of}
 use Rattle.rm_session.specs.Session.{Core, State, Comes, Step}
 use Rattle.rm_engine.specs.At.{Changes, NotChanged}
 

@@ -2,9 +2,9 @@
 use Rattle.std.proofs.Common.{◌≡◌, ◌⊎◌, inl, inr, ℕ, ◌+◌, true, List, refl, sym, subst}
 use Rattle.rm_types.specs.declared.numbers.Rid.{Rid}
 use Rattle.rm_types.specs.declared.numbers.TxnId.{TxnId}
-use Rattle.rm_script.specs.declared.lines.Line.{Line}
-use Rattle.rm_script.specs.declared.lines.Line.TheVariants as line
-use Rattle.rm_script.specs.declared.lines.Target.{Target}
+use Rattle.rm_plain.specs.declared.lines.Line.{Line}
+use Rattle.rm_plain.specs.declared.lines.Line.TheVariants as line
+use Rattle.rm_events.specs.declared.lines.Target.{Target}
 use Rattle.rm_types.specs.declared.operations.Reply.{Reply}
 use Rattle.rm_types.specs.declared.operations.Reply.TheVariants as reply
 use Rattle.rm_outside.specs.Images.{Image}

@@ -1,7 +1,7 @@
 -- How much of a log is used, and which line lacks room, on examples.
 use Rattle.std.proofs.Common.{◌≡◌, ℕ, List, [], ◌∷◌, true, false, refl, arith, lit<}
 use Rattle.rm_types.specs.declared.numbers.Rid.{Rid}
-use Rattle.rm_script.specs.declared.lines.Line.TheVariants as line
+use Rattle.rm_plain.specs.declared.lines.Line.TheVariants as line
 use Rattle.rm_types.specs.declared.operations.Reply.TheVariants as reply
 use Rattle.rm_session.specs.Session.{Core, IsFirstWithRoom}
 use Rattle.rm_engine.specs.Numbers.{Used, used_after, LacksRoom}

@@ -4,9 +4,9 @@ use Rattle.std.proofs.lemmas.Bool.{true≢false}
 use Rattle.rm_types.specs.declared.numbers.Rid.{Rid}
 use Rattle.rm_types.specs.declared.numbers.TxnId.{TxnId}
 use Rattle.rm_types.specs.declared.slots.Slot.TheVariants.{Row}
-use Rattle.rm_script.specs.declared.lines.Line.{Line}
-use Rattle.rm_script.specs.declared.lines.Line.TheVariants as line
-use Rattle.rm_script.specs.declared.lines.Target.TheVariants as target
+use Rattle.rm_plain.specs.declared.lines.Line.{Line}
+use Rattle.rm_plain.specs.declared.lines.Line.TheVariants as line
+use Rattle.rm_events.specs.declared.lines.Target.TheVariants as target
 use Rattle.rm_types.specs.declared.operations.Reply.{Reply}
 use Rattle.rm_types.specs.declared.operations.Reply.TheVariants as reply
 use Rattle.rm_model.specs.Object.{Rows}

@@ -1,7 +1,7 @@
 -- The parts of a turn, one after the other.
 use Rattle.std.proofs.Common.{◌≡◌, inl, ℕ, sym, subst}
 use Rattle.rm_types.specs.declared.numbers.Lsn.{Lsn}
-use Rattle.rm_script.specs.declared.lines.Line.{Line}
+use Rattle.rm_plain.specs.declared.lines.Line.{Line}
 use Rattle.rm_outside.specs.Images.{Image}
 use Rattle.rm_outside.specs.Moments.{LeavesOnly, joined, weaker}
 use Rattle.rm_model.specs.Object.{Rows}

@@ -3,8 +3,8 @@ use Rattle.std.specs.Prelude.{◌≡◌, ℕ, ◌++◌, ◌+◌, ◌-◌, ◌*�
 use Rattle.rm_types.specs.declared.numbers.TxnId.{TxnId}
 use Rattle.rm_types.specs.declared.numbers.TheConstants.{MAX_PAGES, MAX_LOG, MAX_SLOT}
 use Rattle.rm_types.specs.declared.numbers.Rid.{Rid}
-use Rattle.rm_script.specs.declared.lines.Line.{Line}
-use Rattle.rm_script.specs.declared.lines.Line.TheVariants as line
+use Rattle.rm_plain.specs.declared.lines.Line.{Line}
+use Rattle.rm_plain.specs.declared.lines.Line.TheVariants as line
 use Rattle.rm_history.specs.declared.TheConstants.{BATCH_HEADER}
 use Rattle.rm_record.specs.declared.records.LogRecord.{LogRecord}
 use Rattle.rm_record.specs.Records.{spelling}

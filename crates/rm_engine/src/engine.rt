@@ -23,7 +23,7 @@ use crate::logging::{log_commit, log_insert};
 use crate::room::{insert_cost, owed, room_to_begin};
 use rm_outside::Volume;
 use rm_page::Page;
-use rm_script::Line;
+use rm_plain::Line;
 use rm_session::Session;
 use rm_types::{Area, Fault, Lsn, Reply};
 use rm_wal::{LONG_TAIL, Log};

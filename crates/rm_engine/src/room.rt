@@ -7,7 +7,7 @@ ghost use Rattle.rm_types.specs.declared.rows.TheConstants.{MAX_ROW};
 ghost use Rattle.rm_engine.specs.Numbers.{IsReady, HasRoom, used_of, LacksRoom, LacksIds, owed_by, cost_of};
 
 use crate::faults::TurnFault;
-use rm_script::Line;
+use rm_plain::Line;
 use rm_session::Session;
 use rm_types::{Fault, TxnId};
 use rm_wal::Log;

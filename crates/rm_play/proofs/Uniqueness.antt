@@ -1,5 +1,6 @@
 -- A session's move for an operation is one but for its free choices: it is the chosen one, but for the log's room.
-use Rattle.std.proofs.Common.{◌≡◌, inl, inr, ℕ, ◌+◌, ◌-◌, ◌*◌, ◌^◌, ◌==◌, ◌<◌, ◌≤◌, max, cond, Bool, true, false, Option, Some, None, List, [], ◌∷◌, length, refl, sym, ap, subst, ◌∙◌, arith}
+use Rattle.std.proofs.Common.{◌≡◌, inl, inr, ℕ, ◌+◌, ◌-◌, ◌*◌, ◌^◌, ◌==◌, ◌<◌, ◌≤◌, max, cond, Bool, true, false, Option, Some, None, List, [], ◌∷◌, length}
+use Rattle.std.proofs.Common.{refl, sym, ap, subst, ◌∙◌, arith}
 use Rattle.std.specs.Bool.{Decides}
 use Rattle.std.specs.Prelude.{nat_lt, nat_le, ◌&&◌, if◌then◌else◌}
 use Rattle.std.proofs.lemmas.Bool.{cases_eq, cases_order}
@@ -11,7 +12,6 @@ use Rattle.rm_types.specs.declared.slots.Slot.{Slot}
 use Rattle.rm_types.specs.declared.slots.Slot.TheVariants.{Vacant, Row}
 use Rattle.rm_types.specs.declared.slots.TheConstants.{CAPACITY}
 use Rattle.rm_model.specs.Pages.{slot_at}
-use Rattle.rm_model.specs.Categories.{category_of}
 use Rattle.rm_history.specs.Acts.{Change}
 use Rattle.rm_history.specs.Contents.{page_of, entry_of}
 use Rattle.rm_history.specs.Pending.{pending_of}
@@ -22,17 +22,17 @@ use Rattle.rm_core.specs.Effects.{after}
 use Rattle.rm_core.specs.Kept.{Kept}
 use Rattle.rm_core.specs.Locks.{Asks, IsInside}
 use Rattle.rm_core.specs.May.{Wants, IsBlockedBy, IsSkipped, IsSeated, May, SlotFits}
-use Rattle.rm_core.specs.Moves.{Setting, again, log_full, spent, Bars, IsBarredBy, IsSpent, Lacks, Move, turns, answered}
+use Rattle.rm_core.specs.Moves.{Setting, again, log_full, spent, Bars, IsSpent, Lacks, Move, turns, answered}
 use Rattle.rm_core.specs.Room.{CHANGE_COST, owed}
 use Rattle.rm_core.specs.Searching.{Scans, IsHeld, MayTry, part_end}
 use Rattle.rm_core.specs.Sizes.{end_of}
-use Rattle.rm_core.specs.State.{undoes_all, returns, target_of, Aim, Stage, idle, seeks, wants, tries, reads, fetches, alters, sets, settles, forces, finishes}
-use Rattle.rm_core.specs.State.{rolls, prepares, compensates, Seat, State, seat_at}
+use Rattle.rm_core.specs.State.{undoes_all, returns, target_of, Stage, idle, seeks, wants, reads, alters, rolls, Seat, State, seat_at}
 use Rattle.rm_core.specs.Turns.{Turn, skip, unname, refuse, begin, scan, scan_last, latch, try, try_last, insert, lock, lock_alone, wait, die, fetch, miss, lack, alter}
 use Rattle.rm_core.specs.Turns.{settled, settle, commit, force, finish, abort, prepared, prepare, compensate, end, save, no_target, target, back}
 use Rattle.rm_core.proofs.Runs.{run_kept}
 use Rattle.rm_play.specs.Choices.{Takes, TakesAt, MayTake, IsMoveFor, erased, AsksRoom, IsAlike, MovesAreOne}
-use Rattle.rm_play.specs.Choosing.{slot_for, found_at, scanning, latching, latching_at, locking_against, locking, altering_to, rolling, preparing, compensating, outside, asking, chosen_at, chosen}
+use Rattle.rm_play.specs.Choosing.{slot_for, found_at, scanning, latching, latching_at, locking_against, locking, altering_to}
+use Rattle.rm_play.specs.Choosing.{rolling, preparing, compensating, outside, asking, chosen_at, chosen}
 use Rattle.rm_play.proofs.Finding.{if_else, decides_le, decides_number, IsLeast, In, first_is_least, barring_is_least, Keeps, blocker_is_least, slot_is_for_row}
 
 -- a test that is decided
@@ -42,18 +42,15 @@ yes_it {X} {A} {b} {x} y decides is = if_else b x y (λ (z : X). x ≡ z) decide
 no_it : {X A : Type 0} {b : Bool} {y : X} (x : X) → Decides b A → (A → ⊥) → y ≡ cond b x y
 no_it {X} {A} {b} {y} x decides not = if_else b x y (λ (z : X). y ≡ z) decides (λ holds. absurd (not holds)) (λ fails. refl)
 
--- two numbers that are least with a property are one
-least_one : (P : ℕ → Type 0) (one other : ℕ) → P one → P other → ((lower : ℕ) → lower < one → P lower → ⊥) → ((lower : ℕ) → lower < other → P lower → ⊥) → one ≡ other
-least_one P one other is has least lowest = elim (cases_order one other) [
-  | inl same ↦ same
-  | inr differs ↦ elim differs [ inl less ↦ absurd (lowest one less is) | inr more ↦ absurd (least other more has) ]
-]
-
+-- what is least with a property is one
 found_one : (P : ℕ → Type 0) (one other : Option ℕ) → IsLeast P one → IsLeast P other → one ≡ other
 found_one P None None is has = refl
 found_one P None (Some j) is has = absurd (is j has.0)
 found_one P (Some i) None is has = absurd (has i is.0)
-found_one P (Some i) (Some j) is has = ap Some (least_one P i j is.0 has.0 is.1 has.1)
+found_one P (Some i) (Some j) is has = elim (cases_order i j) [
+  | inl same ↦ ap Some same
+  | inr differs ↦ elim differs [ inl less ↦ absurd (has.1 i less is.0) | inr more ↦ absurd (is.1 j more has.0) ]
+]
 
 -- the chosen move at an offset of 0, by the stage first
 abbrev pivot_at : Setting → State → ℕ → Op → Stage → Move
@@ -63,7 +60,7 @@ pivot_at m s k op stage = chosen_at m s k 0 op stage
 abbrev pivot : Setting → State → ℕ → Op → Move
 pivot m s k op = pivot_at m s k op (seat_at s.seats k).stage
 
-module _ (m : Setting) (s : State) (k : ℕ) (op : Op) where
+module _ (m : Setting) (s : State) (k : ℕ) (op : Op) (bare : (seat_at s.seats k).txn ≡ 0 → (seat_at s.seats k).stage ≡ idle) where
   abbrev seat : Seat
   seat = seat_at s.seats k
 
@@ -82,12 +79,12 @@ module _ (m : Setting) (s : State) (k : ℕ) (op : Op) where
   outside_is : {o : Op} {move : Move} → seat.stage ≡ idle → op ≡ o → seat.txn ≡ 0 → move ≡ outside m s k 0 o → Is move
   outside_is at same none is = at_stage at (is ∙ ap (outside m s k 0) (sym same) ∙ yes_it _ (Decides-eqb seat.txn 0) none)
 
-  asked_is : {o : Op} {turn : Turn} → seat.stage ≡ idle → op ≡ o → (seat.txn ≡ 0 → ⊥) → turn ≡ asking m s k 0 o → Is (turns k turn)
-  asked_is at same some is = at_stage at (ap (turns k) (is ∙ ap (asking m s k 0) (sym same)) ∙ no_it _ (Decides-eqb seat.txn 0) some)
+  asked_is : {o : Op} {turn : Turn} → (seat.txn ≡ 0 → ⊥) → seat.stage ≡ idle → (seat.stage ≡ idle → op ≡ o) → turn ≡ asking m s k 0 o → Is (turns k turn)
+  asked_is some at takes is = at_stage at (ap (turns k) (is ∙ ap (asking m s k 0) (sym (takes at))) ∙ no_it _ (Decides-eqb seat.txn 0) some)
 
   skip_is : (o : Op) → seat.stage ≡ idle → op ≡ o → IsSkipped seat o → Is (turns k (skip o))
   skip_is ops.Unbound at same is = absurd is
-  skip_is ops.Begin at same is = asked_is at same is refl
+  skip_is ops.Begin at same is = asked_is is at (λ idles. same) refl
   skip_is o at same is = outside_is at same is refl
 
   -- ---- scans
@@ -95,20 +92,17 @@ module _ (m : Setting) (s : State) (k : ℕ) (op : Op) where
   abbrev Open : List ℕ → ℕ → Type 0
   Open row page = category_bytes m.format * entry_of s.history page + length row ≤ CAPACITY
 
-  scan_from : (stage : Stage) (row : List ℕ) (from : ℕ) (turn : Turn) → seat.stage ≡ stage → (seat.txn ≡ 0 → ⊥) → Scans stage row from → (seat.stage ≡ idle → op ≡ ops.Insert row)
-      → turn ≡ scanning m s row from → Is (turns k turn)
-  scan_from idle row from turn at some scans inserts is = asked_is at (inserts at) some (is ∙ ap (scanning m s row) scans)
-  scan_from (seeks sought on) row from turn at some scans inserts is =
-      at_stage at (ap (turns k) (is ∙ ap (scanning m s row) (sym scans.1) ∙ ap (λ (r : List ℕ). scanning m s r on) (sym scans.0)))
-  scan_from other row from turn at some scans inserts is = absurd scans
+  scans : (row : List ℕ) (from : ℕ) (turn : Turn) (found : Option ℕ) → IsLeast (In (Open row) from (part_end m.pages from - from)) found
+      → turn ≡ found_at m.pages (part_end m.pages from) row from found → turn ≡ scanning m s row from
+  scans row from turn found least is = is ∙ ap (found_at m.pages (part_end m.pages from) row from) (found_one _ _ _ least (first_is_least _ (Open row)
+      (λ page. decides_le (category_bytes m.format * entry_of s.history page + length row) CAPACITY) from (part_end m.pages from - from)))
 
-  scan_is : (row : List ℕ) (from : ℕ) (turn : Turn) (found : Option ℕ) → (seat.txn ≡ 0 → ⊥) → Scans seat.stage row from
-      → (seat.stage ≡ idle → op ≡ ops.Insert row) → IsLeast (In (Open row) from (part_end m.pages from - from)) found
-      → turn ≡ found_at m.pages (part_end m.pages from) row from found → Is (turns k turn)
-  scan_is row from turn found some at inserts least is =
-      let scans : turn ≡ scanning m s row from = is ∙ ap (found_at m.pages (part_end m.pages from) row from) (found_one _ _ _ least
-        (first_is_least _ (Open row) (λ page. decides_le (category_bytes m.format * entry_of s.history page + length row) CAPACITY) from (part_end m.pages from - from))) in
-      scan_from seat.stage row from turn refl some at inserts scans
+  scan_is : (stage : Stage) (row : List ℕ) (from : ℕ) {turn : Turn} → seat.stage ≡ stage → (seat.txn ≡ 0 → ⊥) → Scans stage row from
+      → (seat.stage ≡ idle → op ≡ ops.Insert row) → turn ≡ scanning m s row from → Is (turns k turn)
+  scan_is idle row from at some begins inserts is = asked_is some at inserts (is ∙ ap (scanning m s row) begins)
+  scan_is (seeks sought on) row from at some goes inserts is =
+      at_stage at (ap (turns k) (is ∙ ap (scanning m s row) (sym goes.1) ∙ ap (λ (r : List ℕ). scanning m s r on) (sym goes.0)))
+  scan_is other row from at some never inserts is = absurd never
 
   -- ---- locks
 
@@ -121,10 +115,10 @@ module _ (m : Setting) (s : State) (k : ℕ) (op : Op) where
   decides_inside : (rid : Rid) → Decides (nat_lt rid.page m.pages && nat_le rid.slot MAX_SLOT) (IsInside m.pages rid)
   decides_inside rid = Decides-and _ _ (Decides-ltb rid.page m.pages) (decides_le rid.slot MAX_SLOT)
 
-  locked : (o : Op) (rid : Rid) (alone : Bool) (turn : Turn) (found : Option ℕ) → IsInside m.pages rid → IsLeast (Keeps s.grants seat.txn rid alone) found
-      → turn ≡ locking_against s seat o rid alone found → turn ≡ locking m s seat o rid alone
-  locked o rid alone turn found inside_it least is =
-      is ∙ ap (locking_against s seat o rid alone) (found_one _ _ _ least (blocker_is_least s.grants seat.txn rid alone)) ∙ yes_it _ (decides_inside rid) inside_it
+  locked : (o : Op) (rid : Rid) (alone : Bool) {turn : Turn} (found : Option ℕ) → Asks o rid alone → IsInside m.pages rid
+      → IsLeast (Keeps s.grants seat.txn rid alone) found → turn ≡ locking_against s seat o rid alone found → turn ≡ asking m s k 0 o
+  locked o rid alone found asks inside_it least is = is ∙ ap (locking_against s seat o rid alone) (found_one _ _ _ least (blocker_is_least s.grants seat.txn rid alone))
+      ∙ yes_it _ (decides_inside rid) inside_it ∙ asks_it o rid alone asks
 
   blocked : {rid : Rid} {alone : Bool} {holder : ℕ} → IsBlockedBy s seat rid alone holder → IsLeast (Keeps s.grants seat.txn rid alone) (Some holder)
   blocked is = ((is.other, is.blocks), λ lower below keeps. is.least lower below keeps.0 keeps.1)
@@ -144,12 +138,14 @@ module _ (m : Setting) (s : State) (k : ℕ) (op : Op) where
 
   slot_is : (page slot : ℕ) → IsSlotForRow (IsHeld s.grants seat.txn page) (page_of s.history page) slot → slot ≡ slot_for s seat page
   slot_is page slot is =
+      let IsFree : ℕ → Type 0 = λ (n : ℕ). (slot_at (page_of s.history page) n ≡ Vacant) × (IsHeld s.grants seat.txn page n → ⊥) in
       let has = slot_is_for_row s seat page in
-      least_one (λ (n : ℕ). (slot_at (page_of s.history page) n ≡ Vacant) × (IsHeld s.grants seat.txn page n → ⊥)) slot _ (is.vacant, is.free) (has.vacant, has.free)
-      (λ lower below free. is.least lower below free.0 free.1) (λ lower below free. has.least lower below free.0 free.1)
+      let same = found_one IsFree (Some slot) (Some (slot_for s seat page)) ((is.vacant, is.free), λ lower below free. is.least lower below free.0 free.1)
+      ((has.vacant, has.free), λ lower below free. has.least lower below free.0 free.1) in cc
 
   tries_is : (row : List ℕ) (page slot : ℕ) (turn : ℕ → Turn) → MayTry s seat row page slot
-      → turn (slot_for s seat page) ≡ cond (page + 1 == m.pages) (try_last row page (slot_for s seat page)) (try row page (slot_for s seat page)) → Is (turns k (turn slot))
+      → turn (slot_for s seat page) ≡ cond (page + 1 == m.pages) (try_last row page (slot_for s seat page)) (try row page (slot_for s seat page))
+      → Is (turns k (turn slot))
   tries_is row page slot turn may is =
       let same : slot ≡ slot_for s seat page = slot_is page slot may.is_slot in
       at_stage may.at (ap (λ (n : ℕ). turns k (turn n)) same ∙ ap (turns k) is
@@ -173,68 +169,66 @@ module _ (m : Setting) (s : State) (k : ℕ) (op : Op) where
 
   -- ---- each turn
 
-  only : Kept m.format s → (turn : Turn) → (seat.stage ≡ idle → Takes turn op) → IsSeated seat turn → May m.format m.pages s k seat turn → need (erased turn) ≤ m.limit
+  only : (turn : Turn) → (seat.stage ≡ idle → Takes turn op) → IsSeated seat turn → May m.format m.pages s k seat turn → need (erased turn) ≤ m.limit
       → Is (turns k (erased turn))
-  only kept (skip o) takes some may room = skip_is o may.0 (sym (takes may.0)) may.1
-  only kept unname takes some may room = elim (cases_eq seat.txn 0) [
+  only (skip o) takes some may room = skip_is o may.0 (sym (takes may.0)) may.1
+  only unname takes some may room = elim (cases_eq seat.txn 0) [
     | inl none ↦ outside_is may (takes may) none refl
-    | inr other ↦ asked_is may (takes may) other refl
+    | inr other ↦ asked_is other may takes refl
   ]
-  only kept (refuse o rid) takes some may room =
-      asked_is may.0 (sym (takes may.0)) some (no_it _ (decides_inside rid) may.2 ∙ asks_it o rid may.1.0 may.1.1)
-  only kept (begin txn) takes some may room =
-      let at : seat.stage ≡ idle = kept.bare k may.0 in
+  only (refuse o rid) takes some may room = asked_is some may.0 (λ at. sym (takes at)) (no_it _ (decides_inside rid) may.2 ∙ asks_it o rid may.1.0 may.1.1)
+  only (begin txn) takes some may room =
+      let at : seat.stage ≡ idle = bare may.0 in
       let fits : need (begin s.next) ≤ m.limit = subst (λ (id : ℕ). need (begin id) ≤ m.limit) may.1 room in
-      outside_is at (takes at) may.0 (ap (λ (id : ℕ). turns k (begin id)) may.1 ∙ yes_it _ (decides_le _ m.limit) (omega (arith, fits))
-      ∙ no_it _ (Decides-eqb s.next (2 ^ 32)) (λ all. omega (arith, may.2, all)))
-  only kept (scan row from to true) takes some may room = scan_is row from _ (Some to) some may.at takes
-      ((may.forth, omega (arith, may.stops.0, may.forth), omega (arith, may.stops.1)), λ lower less is. absurd (omega (arith, is.2, may.passed lower is.0 less))) refl
-  only kept (scan row from to false) takes some may room = scan_is row from _ None some may.at takes
+      outside_is at (takes at) may.0 (ap (λ (id : ℕ). turns k (begin id)) may.1 ∙ yes_it _ (decides_le _ m.limit) (omega arith)
+      ∙ no_it _ (Decides-eqb s.next (2 ^ 32)) (λ all. omega (arith, may.2)))
+  only (scan row from to true) takes some may room = scan_is seat.stage row from refl some may.at takes (scans row from _ (Some to)
+      ((may.forth, omega (arith, may.stops.0, may.forth), omega (arith, may.stops.1)), λ lower less is. absurd (omega (arith, is.2, may.passed lower is.0 less))) refl)
+  only (scan row from to false) takes some may room = scan_is seat.stage row from refl some may.at takes (scans row from _ None
       (λ page is. absurd (omega (arith, is.2, may.passed page is.0 (omega (arith, is.0, is.1, may.stops.0)))))
-      (ap (λ (p : ℕ). scan row from p false) may.stops.0 ∙ no_it _ (Decides-eqb (part_end m.pages from) m.pages) (λ last. omega (arith, may.stops.0, may.stops.1, last)))
-  only kept (scan_last row from) takes some may room = scan_is row from _ None some may.at takes
-      (λ page is. absurd (omega (arith, is.2, may.passed page is.0 (omega (arith, is.0, is.1, may.last))))) (yes_it _ (Decides-eqb (part_end m.pages from) m.pages) may.last)
-  only kept (latch page) takes some may room =
+      (ap (λ (p : ℕ). scan row from p false) may.stops.0 ∙ no_it _ (Decides-eqb (part_end m.pages from) m.pages) (λ last. omega (arith, may.stops.0, may.stops.1))))
+  only (scan_last row from) takes some may room = scan_is seat.stage row from refl some may.at takes (scans row from _ None
+      (λ page is. absurd (omega (arith, is.2, may.passed page is.0 (omega (arith, is.0, is.1, may.last)))))
+      (yes_it _ (Decides-eqb (part_end m.pages from) m.pages) may.last))
+  only (latch page) takes some may room =
       latching_is page None may.wants_it (λ j bars. elim bars.1 [ inl alone ↦ may.free j bars.0 alone | inr looks ↦ may.looked j bars.0 looks.0 looks.1 ])
-  only kept (try row page slot) takes some may room = tries_is row page slot (try row page) may.0 (no_it _ (Decides-eqb (page + 1) m.pages) (λ last. omega (arith, may.1, last)))
-  only kept (try_last row page slot) takes some may room = tries_is row page slot (try_last row page) may.0 (yes_it _ (Decides-eqb (page + 1) m.pages) may.1)
-  only kept (insert row rid lsn) takes some may room =
+  only (try row page slot) takes some may room = tries_is row page slot (try row page) may.0 (no_it _ (Decides-eqb (page + 1) m.pages) (λ last. omega (arith, may.1)))
+  only (try_last row page slot) takes some may room = tries_is row page slot (try_last row page) may.0 (yes_it _ (Decides-eqb (page + 1) m.pages) may.1)
+  only (insert row rid lsn) takes some may room =
       let same : rid.slot ≡ slot_for s seat rid.page = slot_is rid.page rid.slot may.is_slot in
       let place : ℕ → Turn = λ (n : ℕ). insert row (record { page = rid.page; slot = n }) 0 in
       at_stage may.at (ap (λ (n : ℕ). turns k (place n)) same
       ∙ yes_it _ (decides_le _ m.limit) (subst (λ (n : ℕ). need (place n) ≤ m.limit) same room)
       ∙ yes_it _ (decides_le _ CAPACITY) (subst (λ (n : ℕ). RowFits s.history seat.txn rid.page n (length row)) same may.fits))
-  only kept (lock rid) takes some may room = asked_is may.at (takes may.at) some
-      (locked (ops.Read rid) rid false (lock rid) None may.inside (λ other keeps. may.free other keeps.0 keeps.1) refl)
-  only kept (lock_alone rid Vacant) takes some may room = asked_is may.at (takes may.at) some
-      (locked (ops.Delete rid) rid true (lock_alone rid Vacant) None may.inside (λ other keeps. may.free other keeps.0 keeps.1) refl)
-  only kept (lock_alone rid (Row row)) takes some may room = asked_is may.at (takes may.at) some
-      (locked (ops.Update rid row) rid true (lock_alone rid (Row row)) None may.inside (λ other keeps. may.free other keeps.0 keeps.1) refl)
-  only kept (wait o rid alone holder) takes some may room = asked_is may.0.at (sym (takes may.0.at)) some
-      (locked o rid alone (wait o rid alone holder) (Some holder) may.3 (blocked may.0) (yes_it _ (Decides-ltb seat.txn holder) may.1) ∙ asks_it o rid alone may.2)
-  only kept (die o rid alone holder) takes some may room = asked_is may.0.at (sym (takes may.0.at)) some
-      (locked o rid alone (die o rid alone holder) (Some holder) may.3 (blocked may.0) (no_it _ (Decides-ltb seat.txn holder) (λ less. omega (arith, may.1, less))) ∙ asks_it o rid alone may.2)
-  only kept (fetch rid slot) takes some may room = at_stage may.0 (ap (λ (held : Slot). turns k (fetch rid held)) may.1)
-  only kept (miss rid slot) takes some may room = at_stage may.0 (ap (λ (held : Slot). altering_to m s k 0 rid held slot) (sym may.1))
-  only kept (lack rid row room_left) takes some may room = at_stage may.0 (ap (λ (n : ℕ). turns k (lack rid row n)) may.3 ∙ lack_is rid _ row may.1 may.2)
-  only kept (alter rid slot lsn) takes some may room = at_stage may.at (alter_is rid _ slot may.fits room)
-  only kept (settled outcome page) takes some may room = at_stage may.0 (ap (turns k) (yes_it _ (Decides-eqb _ _) may.1))
-  only kept (settle outcome page lsn) takes some may room = at_stage may.at (ap (turns k) (no_it _ (Decides-eqb _ _) may.wrong))
-  only kept (commit lsn) takes some may room = asked_is may.0 (takes may.0) some refl
-  only kept (force durable) takes some may room = at_stage may.0 refl
-  only kept finish takes some may room = at_stage may refl
-  only kept abort takes some may room = asked_is may (takes may) some refl
-  only kept (prepared aim last) takes some may room =
-      at_stage may.0 (ap (turns k) (yes_it _ (Decides-eqb _ _) may.2 ∙ ap (preparing m s 0 aim) (sym may.1.1)))
-  only kept (prepare aim last lsn) takes some may room =
+  only (lock rid) takes some may room = asked_is some may.at takes
+      (locked (ops.Read rid) rid false None (refl, refl) may.inside (λ other keeps. may.free other keeps.0 keeps.1) refl)
+  only (lock_alone rid Vacant) takes some may room = asked_is some may.at takes
+      (locked (ops.Delete rid) rid true None (refl, refl) may.inside (λ other keeps. may.free other keeps.0 keeps.1) refl)
+  only (lock_alone rid (Row row)) takes some may room = asked_is some may.at takes
+      (locked (ops.Update rid row) rid true None (refl, refl) may.inside (λ other keeps. may.free other keeps.0 keeps.1) refl)
+  only (wait o rid alone holder) takes some may room = asked_is some may.0.at (λ at. sym (takes at))
+      (locked o rid alone (Some holder) may.2 may.3 (blocked may.0) (yes_it _ (Decides-ltb seat.txn holder) may.1))
+  only (die o rid alone holder) takes some may room = asked_is some may.0.at (λ at. sym (takes at))
+      (locked o rid alone (Some holder) may.2 may.3 (blocked may.0) (no_it _ (Decides-ltb seat.txn holder) (λ less. omega (arith, may.1))))
+  only (fetch rid slot) takes some may room = at_stage may.0 (ap (λ (held : Slot). turns k (fetch rid held)) may.1)
+  only (miss rid slot) takes some may room = at_stage may.0 (ap (λ (held : Slot). altering_to m s k 0 rid held slot) (sym may.1))
+  only (lack rid row room_left) takes some may room = at_stage may.0 (ap (λ (n : ℕ). turns k (lack rid row n)) may.3 ∙ lack_is rid _ row may.1 may.2)
+  only (alter rid slot lsn) takes some may room = at_stage may.at (alter_is rid _ slot may.fits room)
+  only (settled outcome page) takes some may room = at_stage may.0 (ap (turns k) (yes_it _ (Decides-eqb _ _) may.1))
+  only (settle outcome page lsn) takes some may room = at_stage may.at (ap (turns k) (no_it _ (Decides-eqb _ _) may.wrong))
+  only (commit lsn) takes some may room = asked_is some may.0 takes refl
+  only (force durable) takes some may room = at_stage may.0 refl
+  only finish takes some may room = at_stage may refl
+  only abort takes some may room = asked_is some may takes refl
+  only (prepared aim last) takes some may room = at_stage may.0 (ap (turns k) (yes_it _ (Decides-eqb _ _) may.2 ∙ ap (preparing m s 0 aim) (sym may.1.1)))
+  only (prepare aim last lsn) takes some may room =
       at_stage may.at (ap (turns k) (no_it _ (Decides-eqb _ _) may.wrong ∙ ap (preparing m s 0 aim) (sym may.next.1)))
-  only kept (compensate aim last lsn) takes some may room = at_stage may.0 (ap (λ (pending : List Change). turns k (compensating 0 aim pending)) (sym may.1.1))
-  only kept (end outcome lsn) takes some may room = at_stage may.0 (ap (rolling s k 0 (undoes_all outcome)) (sym may.1))
-  only kept (save number) takes some may room = asked_is may (takes may) some refl
-  only kept (no_target number) takes some may room = asked_is may.0 (takes may.0) some (no_it _ (decides_number seat.saves number) may.1)
-  only kept (target number lsn) takes some may room =
-      asked_is may.0 (takes may.0) some (ap (target number) may.2 ∙ yes_it _ (decides_number seat.saves number) may.1)
-  only kept (back number lsn) takes some may room = at_stage may.0 (back_is number lsn (pending_of s.history seat.txn) may.1)
+  only (compensate aim last lsn) takes some may room = at_stage may.0 (ap (λ (pending : List Change). turns k (compensating 0 aim pending)) (sym may.1.1))
+  only (end outcome lsn) takes some may room = at_stage may.0 (ap (rolling s k 0 (undoes_all outcome)) (sym may.1))
+  only (save number) takes some may room = asked_is some may takes refl
+  only (no_target number) takes some may room = asked_is some may.0 takes (no_it _ (decides_number seat.saves number) may.1)
+  only (target number lsn) takes some may room = asked_is some may.0 takes (ap (target number) may.2 ∙ yes_it _ (decides_number seat.saves number) may.1)
+  only (back number lsn) takes some may room = at_stage may.0 (back_is number lsn (pending_of s.history seat.txn) may.1)
 
   spent_is : (last : ℕ) → seat.stage ≡ idle → op ≡ ops.Begin → IsSpent s k → last + 1 ≡ s.next → Is (answered k (spent last))
   spent_is last at same is before = let most : last ≡ 2 ^ 32 - 1 = omega (arith, is.1, before) in
@@ -267,36 +261,30 @@ alike (turns j turn) (turns i other) choice is has = (cc, cc)
 alike (turns j turn) (answered i (log_full at)) choice is has = let both = has.2 ∙ sym is in (cc, asks_too i j has.0 turn has.1 both)
 alike (answered j (log_full at)) (turns i turn) choice is has = let both = is.2 ∙ sym has in (cc, asks_too j i is.0 turn is.1 both)
 alike (answered j (log_full at)) (answered i (log_full end_at)) choice is has = let both = is.2 ∙ sym has.2 in cc
-alike (answered j (log_full at)) (answered i answer) choice is has = let never = is.2 ∙ sym has in absurd cc
-alike (answered j answer) (answered i (log_full at)) choice is has = let never = is ∙ sym has.2 in absurd cc
 alike (answered j (again by)) (answered i (again other)) choice is has = (cc, cc)
 alike (answered j (spent last)) (answered i (spent other)) choice is has = (cc, cc)
-alike (turns j turn) (answered i answer) choice is has = absurd cc
-alike (answered j answer) (turns i turn) choice is has = absurd cc
-alike (answered j answer) (answered i other) choice is has = absurd cc
-alike (turns j turn) other choice is has = has
-alike (answered j answer) other choice is has = has
-alike move other choice is has = is
+alike move other choice is has = grind arith
 
 module _ (m : Setting) (s : State) (k : ℕ) (op : Op) (kept : Kept m.format s) where
   abbrev limited : ℕ → Setting
   limited limit = record { format = m.format; pages = m.pages; limit = limit }
 
-  -- it is, under each limit from some number on
+  -- the move chooses, under each limit from this number on
   abbrev Enough : Move → ℕ → Type 0
   Enough move enough = (limit : ℕ) → enough ≤ limit → Chooses move (pivot (limited limit) s k op)
 
-  turn_chooses : (j : ℕ) (turn : Turn) → j ≡ k → MayTake m s k op turn → Enough (turns j turn) (need m s k op (erased turn))
+  turn_chooses : (j : ℕ) (turn : Turn) → j ≡ k → MayTake m s k op turn → Enough (turns j turn) (need m s k op (kept.bare k) (erased turn))
   turn_chooses j turn same take limit room = ap (λ (n : ℕ). turns n (erased turn)) same
-      ∙ only (limited limit) s k op kept turn (λ at. subst (λ (stage : Stage). TakesAt stage turn op) at take.takes) take.seated take.may room
+      ∙ only (limited limit) s k op (kept.bare k) turn (λ at. subst (λ (stage : Stage). TakesAt stage turn op) at take.takes) take.seated take.may room
 
   chooses : (move : Move) → IsMoveFor m s k op move → (enough : ℕ) × Enough move enough
   chooses (turns j turn) is = (_, turn_chooses j turn is.0 is.1)
   chooses (answered j (log_full at)) is = (_, λ limit room. (is.1.0, lacks_asks m.limit at is.1.0 _ is.1.3, turn_chooses j is.1.0 is.0 is.1.1 limit room))
   chooses (answered j (again by)) is =
-      (0, λ limit room. ap (λ (n : ℕ). answered n (again by)) is.0 ∙ latching_is (limited limit) s k op is.1.page (Some by) is.1.wants_it (is.1.bars, is.1.least))
+      let barred : Bars s k is.1.page by × ((lower : ℕ) → lower < by → Bars s k is.1.page lower → ⊥) = (is.1.bars, is.1.least) in
+      (0, λ limit room. ap (λ (n : ℕ). answered n (again by)) is.0 ∙ latching_is (limited limit) s k op (kept.bare k) is.1.page (Some by) is.1.wants_it barred)
   chooses (answered j (spent last)) is =
-      (0, λ limit room. ap (λ (n : ℕ). answered n (spent last)) is.0 ∙ spent_is (limited limit) s k op last is.1 is.2 is.3 is.4)
+      (0, λ limit room. ap (λ (n : ℕ). answered n (spent last)) is.0 ∙ spent_is (limited limit) s k op (kept.bare k) last is.1 is.2 is.3 is.4)
   chooses other is = absurd is
 
 pub moves_are_one : MovesAreOne

@@ -1,16 +1,14 @@
 -- Texts that are cut in two at the first of a byte, and which bytes a field lacks.
-use Rattle.std.proofs.Common.{◌≡◌, ◌≢◌, ℕ, ◌^◌, ◌<◌, ◌≤◌, ◌/◌, ◌%◌, List, [], ◌∷◌, ◌++◌, decimal, arith}
-use Rattle.std.specs.List.{AllByRecursion}
+use Rattle.std.proofs.Common.{◌≡◌, ◌≢◌, ℕ, ◌^◌, ◌<◌, ◌≤◌, ◌/◌, ◌%◌, ◌==◌, true, not, List, [], ◌∷◌, ◌++◌, decimal, arith}
+use Rattle.std.specs.List.{list_all}
+use Rattle.std.proofs.lemmas.Bool.{and_parts}
 use Rattle.std.proofs.lemmas.Bool.Decides.{nat_tests}
 use Rattle.std.proofs.lemmas.Fmt.{decimal_is_IsNumeral}
 use Rattle.std.proofs.lemmas.List.Elements.{All-from_get_or, recursion_from_All}
 use Rattle.std.proofs.lemmas.Str.Parse.{digit_at}
-use Rattle.rm_script.specs.Grammar.{name_text}
-use Rattle.rm_script.specs.Texts.{hex_digit, hex}
-
--- the byte does not stand in the text
-abbrev pub Lacks : ℕ → List ℕ → Type 0
-Lacks byte text = AllByRecursion (λ other. other ≢ byte) text
+use Rattle.rm_script.specs.Cuts.{Lacks}
+use Rattle.rm_script.specs.Targets.{name_text}
+use Rattle.rm_script.specs.Rows.{hex_digit, hex}
 
 -- a text is cut in one way
 pub same_cut : (byte : ℕ) (prefix back prefix' back' : List ℕ) → Lacks byte prefix → Lacks byte prefix' → prefix ++ byte ∷ back ≡ prefix' ++ byte ∷ back' → (prefix ≡ prefix') × (back ≡ back')
@@ -48,3 +46,15 @@ Lacks-hex byte (b ∷ row) low =
 -- nor is what a name has, but for its dollar sign
 pub Lacks-name_text : (byte name : ℕ) → byte < 97 → byte ≢ 36 → Lacks byte (name_text name)
 Lacks-name_text byte name low other = (omega arith, (omega arith, tt))
+
+-- the same as a test, which computes on fixed texts
+pub Lacks-from_test : (byte : ℕ) (text : List ℕ) → list_all (λ other. not (other == byte)) text ≡ true → Lacks byte text
+Lacks-from_test byte [] passes = tt
+Lacks-from_test byte (other ∷ text) passes =
+    let parts = and_parts (not (other == byte)) (list_all (λ other. not (other == byte)) text) passes in
+    let apart : other ≢ byte = λ same. grind (arith, nat_tests, parts.0, same) in
+    (apart, Lacks-from_test byte text parts.1)
+
+pub Lacks-append : (byte : ℕ) (prefix back : List ℕ) → Lacks byte prefix → Lacks byte back → Lacks byte (prefix ++ back)
+Lacks-append byte [] back first second = second
+Lacks-append byte (other ∷ prefix) back first second = (first.0, Lacks-append byte prefix back first.1 second)

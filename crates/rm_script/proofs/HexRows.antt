@@ -3,8 +3,7 @@ use Rattle.std.proofs.Common.{◌≡◌, ℕ, ◌+◌, ◌*◌, ◌<◌, ◌≤�
 use Rattle.std.proofs.lemmas.List.{nil_from_length}
 use Rattle.std.specs.List.{AllByRecursion}
 use Rattle.rm_types.specs.declared.rows.TheConstants.{MAX_ROW}
-use Rattle.rm_script.specs.Grammar.{IsWrittenOut}
-use Rattle.rm_script.specs.Texts.{hex_byte, hex}
+use Rattle.rm_script.specs.Rows.{IsWrittenOut, hex_byte, hex}
 
 abbrev pub AreBytes : List ℕ → Type 0
 AreBytes row = AllByRecursion (λ byte. byte < 256) row

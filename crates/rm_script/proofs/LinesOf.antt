@@ -3,10 +3,10 @@ use Rattle.std.proofs.Common.{◌≡◌, ℕ, suc, ◌+◌, ◌-◌, ◌<◌, Bo
 use Rattle.std.specs.List.{onto_first}
 use Rattle.std.proofs.lemmas.Bool.Decides.{nat_tests}
 use Rattle.std.proofs.lemmas.List.Sums.{sum_by-cons}
-use Rattle.rm_script.specs.Grammar.{lines_of}
-use Rattle.rm_script.proofs.CutLaws.{Lacks}
+use Rattle.rm_script.specs.Lines.{lines_of}
+use Rattle.rm_script.specs.Cuts.{Lacks}
 
-other_byte : {A : Type 0} (byte other : ℕ) (x y : A) → (byte ≡ other → ⊥) → cond (eqb byte other) x y ≡ y
+pub other_byte : {A : Type 0} (byte other : ℕ) (x y : A) → (byte ≡ other → ⊥) → cond (eqb byte other) x y ≡ y
 other_byte byte other x y apart = grind (arith, nat_tests)
 
 -- up to the first LF the bytes are the first line

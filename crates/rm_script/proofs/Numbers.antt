@@ -1,5 +1,5 @@
 -- Which texts `parse` reads as decimal numbers, and which of those have a leading zero or a sign.
-use Rattle.std.proofs.Common.{◌≡◌, ◌≢◌, ℕ, zero, suc, ◌^◌, ◌<◌, ◌≤◌, List, length, get_or, slice_get, decimal, Some, None, IfSome, IfNone, Result, Ok, Err, MatchResult, sym, ap, ◌∙◌, subst, arith}
+use Rattle.std.proofs.Common.{◌≡◌, ◌≢◌, ℕ, zero, suc, ◌+◌, ◌-◌, ◌^◌, ◌<◌, ◌≤◌, List, [], ◌∷◌, length, get_or, slice_get, decimal, Some, None, IfSome, IfNone, Result, Ok, Err, MatchResult, sym, ap, ◌∙◌, subst, arith}
 use Rattle.std.specs.Result.{result_ok, OkIff}
 use Rattle.std.specs.Str.{IsUtf8}
 use Rattle.std.specs.Str.Parse.{AllDigits, digits_value, ParsesUnsigned}
@@ -12,6 +12,11 @@ own : IsNumeralModel (AllDigits 10) (digits_value 10)
 own = numerals_by_value (AllDigits 10) tells_digits
 
 -- what a decimal number begins with
+pub first_digit : (n : ℕ) → n < 2 ^ 64 → get_or (decimal n) 0 0 < 58
+first_digit n small =
+    let numeral = (decimal_is_IsNumeral n small).0 in
+    let range = digit_at (decimal n) 0 numeral.1 numeral.0 in omega (arith, range)
+
 pub no_plus : (text : List ℕ) (first n : ℕ) → Some first ≡ slice_get text 0 → n < 2 ^ 32 → text ≡ decimal n → first ≢ 43
 no_plus text first n is small e plus =
     let numeral = (decimal_is_IsNumeral n (omega arith)).0 in
@@ -68,3 +73,10 @@ same_number text m n p q e e' = decimal_injective m n (omega arith) (omega arith
 pub refused : {E P : Type 0} (r : Result ℕ E) (n : ℕ) → None ≡ result_ok r → OkIff r P n → P → ⊥
 refused (Ok m) n e h p = cc
 refused (Err d) n e h p = h p
+
+-- one digit is a number
+pub one_digit : (text : List ℕ) (n : ℕ) → 1 ≤ length text → length text < 2 → 48 ≤ get_or text 0 0 → get_or text 0 0 < 58 → n ≡ get_or text 0 0 - 48 → text ≡ decimal n
+one_digit [] n some few low high e = absurd (omega arith)
+one_digit (digit ∷ []) n some few low high e =
+    let same : digit ≡ 48 + n = omega arith in ap (λ d. d ∷ []) same ∙ sym (decimal_digit n (omega arith))
+one_digit (digit ∷ other ∷ text) n some few low high e = absurd (omega arith)

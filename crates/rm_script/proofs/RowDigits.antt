@@ -3,7 +3,7 @@ use Rattle.std.proofs.Common.{◌≡◌, ℕ, zero, suc, ◌+◌, ◌/◌, ◌%�
 use Rattle.std.proofs.lemmas.Bool.{and_parts, cases_lt, eqb-true}
 use Rattle.std.proofs.lemmas.List.{take_at}
 use Rattle.hex.specs.Hex.{encode_lower, encode_with, lower_digits}
-use Rattle.rm_script.specs.Texts.{hex, hex_digit}
+use Rattle.rm_script.specs.Rows.{hex, hex_digit}
 
 -- whether the first n digits of the table are the right ones
 abbrev are_same : ℕ → Bool

@@ -1,42 +1,52 @@
--- The definitions of replies' texts, computed on examples.
+-- The definitions of texts, computed on examples.
 use Rattle.std.proofs.Common.{◌≡◌, [], ◌∷◌, codes, refl}
 use Rattle.std.specs.Fmt.{digits}
-use Rattle.rm_types.specs.declared.operations.Reply.TheVariants as reply
-use Rattle.rm_script.specs.Texts.{text_of, texts_of, turn_line, turn_lines, unfinished_line, created_line, restart_line}
+use Rattle.rm_events.specs.declared.operations.Reply.TheVariants as reply
+use Rattle.rm_script.specs.Texts.{created_line, entry_line, mismatches_line, restart_line, row_line, text_of, turn_line, unfinished_line, waits_line}
 
-pub text_of-inserted : text_of (reply.Inserted (record { page = 3; slot = 14 })) ≡ codes "inserted 3.14\n"
+inserted : text_of (reply.Inserted (record { page = 3; slot = 14 })) ≡ codes "inserted 3.14\n"
 unfolding digits
-text_of-inserted = refl
+inserted = refl
 
-pub text_of-began : text_of (reply.Began (record { 0 = 4294967295 })) ≡ codes "begin 4294967295\n"
+began : text_of (reply.Began (record { 0 = 4294967295 })) ≡ codes "begin 4294967295\n"
 unfolding digits
-text_of-began = refl
+began = refl
 
-pub text_of-empty_row : text_of (reply.Row []) ≡ codes "row -\n"
-text_of-empty_row = refl
+empty_row : text_of (reply.Row []) ≡ codes "row -\n"
+empty_row = refl
 
-pub text_of-row : text_of (reply.Row (10 ∷ 255 ∷ [])) ≡ codes "row 0aff\n"
-text_of-row = refl
-
-pub texts_of-two : texts_of (reply.Row (10 ∷ 255 ∷ []) ∷ reply.NoRow ∷ []) ≡ codes "row 0aff\nnorow\n"
-texts_of-two = refl
-
-pub turn_line-began : turn_line 1 (reply.Began (record { 0 = 3 })) ≡ codes "1 begin 3\n"
+page_full : text_of (reply.PageFull 4076) ≡ codes "pagefull 4076\n"
 unfolding digits
-turn_line-began = refl
+page_full = refl
 
-pub turn_lines-two : turn_lines 1 (reply.Row (10 ∷ 255 ∷ []) ∷ reply.NoRow ∷ []) ≡ codes "1 row 0aff\n1 norow\n"
+died : turn_line 16 (reply.Died (record { 0 = 3 })) ≡ codes "16 died 3\n"
 unfolding digits
-turn_lines-two = refl
+died = refl
 
-pub unfinished_line-three : unfinished_line 1 3 ≡ codes "1 unfinished 3\n"
+waits : waits_line 2 1 ≡ codes "2 waits 1\n"
 unfolding digits
-unfinished_line-three = refl
+waits = refl
 
-pub created_line-most : created_line 16384 ≡ codes "created 16384\n"
+unfinished : unfinished_line 1 3 ≡ codes "1 unfinished 3\n"
 unfolding digits
-created_line-most = refl
+unfinished = refl
 
-pub restart_line-some : restart_line 12 10 2 ≡ codes "records 12 applied 10 undone 2\n"
+created : created_line 16384 ≡ codes "created 16384\n"
 unfolding digits
-restart_line-some = refl
+created = refl
+
+restarted : restart_line 12 10 2 ≡ codes "records 12 applied 10 undone 2\n"
+unfolding digits
+restarted = refl
+
+listed : row_line (record { page = 3; slot = 14 }) (10 ∷ 255 ∷ []) ≡ codes "3.14 0aff\n"
+unfolding digits
+listed = refl
+
+entered : entry_line 16383 3 ≡ codes "entry 16383 3\n"
+unfolding digits
+entered = refl
+
+checked : mismatches_line 2 1 ≡ codes "pages 2 mismatches 1\n"
+unfolding digits
+checked = refl

@@ -1,108 +1,83 @@
 -- Each text is written as one line: no part of it but its last byte is an LF.
-use Rattle.std.proofs.Common.{◌≡◌, ◌≢◌, ℕ, ◌+◌, ◌/◌, ◌%◌, ◌^◌, ◌<◌, ◌==◌, Bool, true, ◌&&◌, not, List, [], ◌∷◌, ◌++◌, codes, decimal, refl, sym, ap, ◌∙◌, arith, append_assoc}
-use Rattle.std.specs.List.{AllByRecursion}
-use Rattle.std.proofs.lemmas.Bool.{and_parts}
-use Rattle.std.proofs.lemmas.Bool.Decides.{nat_tests}
-use Rattle.std.proofs.lemmas.Fmt.{decimal_by_steps}
+use Rattle.std.proofs.Common.{◌≡◌, ℕ, ◌^◌, ◌<◌, ◌==◌, true, not, List, [], ◌∷◌, ◌++◌, codes, decimal, refl, sym, arith, append_assoc}
+use Rattle.std.specs.List.{list_all}
 use Rattle.rm_types.specs.declared.numbers.Rid.{Rid}
-use Rattle.rm_types.specs.declared.operations.Reply.{Reply}
-use Rattle.rm_types.specs.declared.operations.Reply.TheVariants as reply
+use Rattle.rm_events.specs.declared.operations.Reply.{Reply}
+use Rattle.rm_events.specs.declared.operations.Reply.TheVariants as reply
+use Rattle.rm_script.specs.Cuts.{Lacks}
 use Rattle.rm_script.specs.Laws.{IsInRange, IsOneLine, TextsAreLines}
-use Rattle.rm_script.specs.Texts.{hex, hex_digit, place, shown, text_of, unfinished_line, restart_line}
+use Rattle.rm_script.specs.Targets.{place}
+use Rattle.rm_script.specs.Texts.{shown, turn_line, words_of}
+use Rattle.rm_script.proofs.CutLaws.{Lacks-append, Lacks-decimal, Lacks-from_test, Lacks-hex}
 
--- no LF among these bytes
-abbrev pub HasNoLf : List ℕ → Type 0
-HasNoLf bytes = AllByRecursion (λ byte. byte ≢ 10) bytes
+-- a fixed text after another has no LF
+pub then_word : (prefix word : List ℕ) → list_all (λ byte. not (byte == 10)) word ≡ true → Lacks 10 prefix → Lacks 10 (prefix ++ word)
+then_word prefix word passes clear = Lacks-append 10 prefix word clear (Lacks-from_test 10 word passes)
 
-pub HasNoLf-append : (prefix back : List ℕ) → HasNoLf prefix → HasNoLf back → HasNoLf (prefix ++ back)
-HasNoLf-append [] back first second = second
-HasNoLf-append (byte ∷ prefix) back first second = (first.0, HasNoLf-append prefix back first.1 second)
+-- nor has a number
+then_number : (prefix : List ℕ) (number : ℕ) → number < 2 ^ 64 → Lacks 10 prefix → Lacks 10 (prefix ++ decimal number)
+then_number prefix number fits clear = Lacks-append 10 prefix (decimal number) clear (Lacks-decimal 10 number (omega arith) fits)
 
--- the same as a test, which computes on fixed texts
-abbrev has_no_lf : List ℕ → Bool
-has_no_lf [] = true
-has_no_lf (byte ∷ bytes) = not (byte == 10) && has_no_lf bytes
+-- a word and a number
+pub worded : (word : List ℕ) (number : ℕ) → list_all (λ byte. not (byte == 10)) word ≡ true → number < 2 ^ 64 → Lacks 10 (word ++ decimal number)
+worded word number passes fits = then_number word number fits (Lacks-from_test 10 word passes)
 
-HasNoLf-from_test : (bytes : List ℕ) → has_no_lf bytes ≡ true → HasNoLf bytes
-HasNoLf-from_test [] passes = tt
-HasNoLf-from_test (byte ∷ bytes) passes =
-    let parts = and_parts (not (byte == 10)) (has_no_lf bytes) passes in
-    let other : byte ≢ 10 = λ same. grind (arith, nat_tests, parts.0, same) in
-    (other, HasNoLf-from_test bytes parts.1)
+pub Lacks-place : (rid : Rid) → rid.page < 2 ^ 32 → rid.slot < 2 ^ 16 → Lacks 10 (place rid)
+Lacks-place rid page slot =
+    then_number (decimal rid.page ++ codes ".") rid.slot (omega arith) (then_word (decimal rid.page) (codes ".") refl (Lacks-decimal 10 rid.page (omega arith) (omega arith)))
 
-pub HasNoLf-decimal : (number : ℕ) → number < 2 ^ 64 → HasNoLf (decimal number)
-HasNoLf-decimal =
-    decimal_by_steps (λ number digits. HasNoLf digits) (λ number small. (omega arith, tt))
-    (λ number digits large before. HasNoLf-append digits ((48 + number % 10) ∷ []) before (omega arith, tt))
+pub Lacks-shown : (row : List ℕ) → Lacks 10 (shown row)
+Lacks-shown [] = Lacks-from_test 10 (codes "-") refl
+Lacks-shown (byte ∷ row) = Lacks-hex 10 (byte ∷ row) (omega arith)
 
-hex_digit-other : (n : ℕ) → hex_digit n ≢ 10
-hex_digit-other n = grind (arith, nat_tests)
+Lacks-words : (answer : Reply) → IsInRange answer → Lacks 10 (words_of answer)
+Lacks-words (reply.Began id) fits = worded (codes "begin ") id.0 refl (omega arith)
+Lacks-words (reply.Inserted rid) fits = Lacks-append 10 (codes "inserted ") (place rid) (Lacks-from_test 10 (codes "inserted ") refl) (Lacks-place rid fits.0 fits.1)
+Lacks-words reply.NoSpace fits = Lacks-from_test 10 (codes "nospace") refl
+Lacks-words (reply.Row row) fits = Lacks-append 10 (codes "row ") (shown row) (Lacks-from_test 10 (codes "row ") refl) (Lacks-shown row)
+Lacks-words reply.NoRow fits = Lacks-from_test 10 (codes "norow") refl
+Lacks-words reply.Updated fits = Lacks-from_test 10 (codes "updated") refl
+Lacks-words reply.Deleted fits = Lacks-from_test 10 (codes "deleted") refl
+Lacks-words (reply.PageFull room) fits = worded (codes "pagefull ") room refl (omega arith)
+Lacks-words reply.BadRid fits = Lacks-from_test 10 (codes "badrid") refl
+Lacks-words (reply.Saved number) fits = worded (codes "saved ") number refl (omega arith)
+Lacks-words (reply.BackTo number) fits = worded (codes "back ") number refl (omega arith)
+Lacks-words (reply.NoSavepoint number) fits = worded (codes "nosavepoint ") number refl (omega arith)
+Lacks-words reply.Committed fits = Lacks-from_test 10 (codes "committed") refl
+Lacks-words reply.Aborted fits = Lacks-from_test 10 (codes "aborted") refl
+Lacks-words (reply.Died holder) fits = worded (codes "died ") holder.0 refl (omega arith)
+Lacks-words reply.Unbound fits = Lacks-from_test 10 (codes "unbound") refl
+Lacks-words reply.Skipped fits = Lacks-from_test 10 (codes "skipped") refl
 
-pub HasNoLf-hex : (row : List ℕ) → HasNoLf (hex row)
-HasNoLf-hex [] = tt
-HasNoLf-hex (byte ∷ row) = (hex_digit-other (byte / 16), (hex_digit-other (byte % 16), HasNoLf-hex row))
+-- a number, a word and a number
+between : (first : ℕ) (word : List ℕ) (second : ℕ) → list_all (λ byte. not (byte == 10)) word ≡ true → first < 2 ^ 64 → second < 2 ^ 64 → Lacks 10 (decimal first ++ word ++ decimal second)
+between first word second passes low high =
+    then_number (decimal first ++ word) second high (then_word (decimal first) word passes (Lacks-decimal 10 first (omega arith) low))
 
-HasNoLf-shown : (row : List ℕ) → HasNoLf (shown row)
-HasNoLf-shown [] = HasNoLf-from_test (codes "-") refl
-HasNoLf-shown (byte ∷ row) = HasNoLf-hex (byte ∷ row)
+-- a word and a number twice
+twice : (word : List ℕ) (first : ℕ) (next : List ℕ) (second : ℕ) → list_all (λ byte. not (byte == 10)) word ≡ true → list_all (λ byte. not (byte == 10)) next ≡ true → first < 2 ^ 64 → second < 2 ^ 64 → Lacks 10 (word ++ decimal first ++ next ++ decimal second)
+twice word first next second passes passes' low high =
+    then_number (word ++ decimal first ++ next) second high (then_word (word ++ decimal first) next passes' (worded word first passes low))
 
-HasNoLf-place : (rid : Rid) → rid.page < 2 ^ 32 → rid.slot < 2 ^ 16 → HasNoLf (place rid)
-HasNoLf-place rid page slot =
-    HasNoLf-append (decimal rid.page ++ codes ".") (decimal rid.slot)
-    (HasNoLf-append (decimal rid.page) (codes ".") (HasNoLf-decimal rid.page (omega arith)) (HasNoLf-from_test (codes ".") refl))
-    (HasNoLf-decimal rid.slot (omega arith))
-
--- a word of the script, and what stands after it
-line_of : (word rest : List ℕ) → has_no_lf word ≡ true → HasNoLf rest → IsOneLine (word ++ rest ++ codes "\n")
-line_of word rest passes clear = (word ++ rest, HasNoLf-append word rest (HasNoLf-from_test word passes) clear, refl)
-
-reply_line : (answer : Reply) → IsInRange answer → IsOneLine (text_of answer)
-reply_line (reply.Began id) fits = line_of (codes "begin ") (decimal id.0) refl (HasNoLf-decimal id.0 (omega arith))
-reply_line (reply.Inserted rid) fits = line_of (codes "inserted ") (place rid) refl (HasNoLf-place rid fits.0 fits.1)
-reply_line reply.NoSpace fits = (codes "nospace", HasNoLf-from_test (codes "nospace") refl, refl)
-reply_line (reply.Row row) fits = line_of (codes "row ") (shown row) refl (HasNoLf-shown row)
-reply_line reply.NoRow fits = (codes "norow", HasNoLf-from_test (codes "norow") refl, refl)
-reply_line reply.BadRid fits = (codes "badrid", HasNoLf-from_test (codes "badrid") refl, refl)
-reply_line reply.Committed fits = (codes "committed", HasNoLf-from_test (codes "committed") refl, refl)
-reply_line reply.Unbound fits = (codes "unbound", HasNoLf-from_test (codes "unbound") refl, refl)
-reply_line reply.Skipped fits = (codes "skipped", HasNoLf-from_test (codes "skipped") refl, refl)
-
--- a text without LF before a line makes it a longer line
-line_after : (prefix line : List ℕ) → HasNoLf prefix → IsOneLine line → IsOneLine (prefix ++ line)
-line_after prefix line clear one =
-    (prefix ++ one.0, HasNoLf-append prefix one.0 clear one.1, ap (λ l. prefix ++ l) one.2 ∙ sym (append_assoc prefix one.0 (10 ∷ [])))
-
--- a number, a word after it and a line
-number_line : (number : ℕ) (word line : List ℕ) → number < 2 ^ 64 → has_no_lf word ≡ true → IsOneLine line → IsOneLine (decimal number ++ word ++ line)
-number_line number word line small passes one =
-    line_after (decimal number ++ word) line (HasNoLf-append (decimal number) word (HasNoLf-decimal number small) (HasNoLf-from_test word passes)) one
-
--- a word and a number after a text without LF
-word_number : (prefix word : List ℕ) (number : ℕ) → HasNoLf prefix → has_no_lf word ≡ true → number < 2 ^ 64 → HasNoLf (prefix ++ word ++ decimal number)
-word_number prefix word number clear passes small =
-    HasNoLf-append (prefix ++ word) (decimal number) (HasNoLf-append prefix word clear (HasNoLf-from_test word passes)) (HasNoLf-decimal number small)
-
-unfinished_is_line : (session txn : ℕ) → session < 2 ^ 8 → txn < 2 ^ 32 → IsOneLine (unfinished_line session txn)
-unfinished_is_line session txn small fits = (
-  decimal session ++ codes " unfinished " ++ decimal txn,
-  word_number (decimal session) (codes " unfinished ") txn (HasNoLf-decimal session (omega arith)) refl (omega arith),
-  refl,
-)
-
-restart_is_line : (records applied undone : ℕ) → records < 2 ^ 64 → applied < 2 ^ 64 → undone < 2 ^ 64 → IsOneLine (restart_line records applied undone)
-restart_is_line records applied undone r a u =
-    let first = HasNoLf-append (codes "records ") (decimal records) (HasNoLf-from_test (codes "records ") refl) (HasNoLf-decimal records r) in
-    let second = word_number (codes "records " ++ decimal records) (codes " applied ") applied first refl a in (
-      codes "records " ++ decimal records ++ codes " applied " ++ decimal applied ++ codes " undone " ++ decimal undone,
-      word_number (codes "records " ++ decimal records ++ codes " applied " ++ decimal applied) (codes " undone ") undone second refl u,
-      refl,
-    )
+turn_is_line : (session : ℕ) (answer : Reply) → session < 2 ^ 8 → IsInRange answer → IsOneLine (turn_line session answer)
+turn_is_line session answer small fits =
+    let number = then_word (decimal session) (codes " ") refl (Lacks-decimal 10 session (omega arith) (omega arith)) in
+    (decimal session ++ codes " " ++ words_of answer, Lacks-append 10 (decimal session ++ codes " ") (words_of answer) number (Lacks-words answer fits), sym (append_assoc (decimal session ++ codes " ") (words_of answer) (codes "\n")))
 
 pub texts_are_lines : TextsAreLines
 texts_are_lines = record {
-  reply = reply_line;
-  turn = λ session answer small fits. number_line session (codes " ") (text_of answer) (omega arith) refl (reply_line answer fits);
-  unfinished = unfinished_is_line;
-  created = λ pages small. line_of (codes "created ") (decimal pages) refl (HasNoLf-decimal pages (omega arith));
-  restart = restart_is_line;
+  reply = λ answer fits. (words_of answer, Lacks-words answer fits, refl);
+  turn = turn_is_line;
+  waits = λ session holder small fits. (_, between session (codes " waits ") holder refl (omega arith) (omega arith), refl);
+  unfinished = λ session txn small fits. (_, between session (codes " unfinished ") txn refl (omega arith) (omega arith), refl);
+  created = λ pages fits. (codes "created " ++ decimal pages, worded (codes "created ") pages refl (omega arith), refl);
+  restart = λ records applied undone r a u.
+      let two = twice (codes "records ") records (codes " applied ") applied refl refl r a in
+      let before = codes "records " ++ decimal records ++ codes " applied " ++ decimal applied in
+      (before ++ codes " undone " ++ decimal undone, then_number (before ++ codes " undone ") undone u (then_word before (codes " undone ") refl two), refl);
+  rows = λ rows fits. (codes "rows " ++ decimal rows, worded (codes "rows ") rows refl fits, refl);
+  row = λ rid row page slot. (_, Lacks-append 10 (place rid ++ codes " ") (shown row) (then_word (place rid) (codes " ") refl (Lacks-place rid page slot)) (Lacks-shown row), refl);
+  entry = λ page category fits small. (codes "entry " ++ decimal page ++ codes " " ++ decimal category, twice (codes "entry ") page (codes " ") category refl refl (omega arith) (omega arith), refl);
+  pages = λ pages fits. (codes "pages " ++ decimal pages, worded (codes "pages ") pages refl (omega arith), refl);
+  mismatches = λ pages mismatches fits fits'. (codes "pages " ++ decimal pages ++ codes " mismatches " ++ decimal mismatches, twice (codes "pages ") pages (codes " mismatches ") mismatches refl refl (omega arith) (omega arith), refl);
 }

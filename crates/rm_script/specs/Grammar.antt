@@ -1,112 +1,59 @@
--- The forms of a script, the plain one and that of one session: which bytes spell which lines.
-use Rattle.std.specs.Prelude.{◌≡◌, ℕ, ◌+◌, ◌^◌, ◌≤◌, ◌<◌, ◌==◌, if◌then◌else◌, List, [], ◌∷◌, ◌++◌, length, replicate, codes, decimal, ◌⊎◌}
-use Rattle.std.specs.List.{AllByRecursion, onto_first}
-use Rattle.rm_script.specs.declared.lines.Line.{Line}
-use Rattle.rm_script.specs.declared.lines.Line.TheVariants as line
-use Rattle.rm_script.specs.declared.lines.Target.{Target}
-use Rattle.rm_script.specs.declared.lines.Target.TheVariants as target
-use Rattle.rm_script.specs.declared.lines.TheConstants.{MAX_BYTES, MAX_LINES}
-use Rattle.rm_types.specs.declared.rows.TheConstants.{MAX_ROW}
-use Rattle.rm_script.specs.Texts.{hex_byte, hex, place}
+-- The grammar of scripts: which lines spell which script, and which line is the first wrong one.
+use Rattle.std.specs.Prelude.{◌≡◌, ℕ, suc, ◌+◌, ◌<◌, List, [], ◌∷◌, ◌++◌, length, codes, decimal, map, Vec}
+use Rattle.std.specs.declared.alloc.Global.{Global}
+use Rattle.rm_types.specs.declared.numbers.TheConstants.{MAX_SESSIONS}
+use Rattle.rm_events.specs.declared.lines.Line.{Line}
+use Rattle.rm_events.specs.declared.lines.Script.{Script}
+use Rattle.rm_events.specs.declared.lines.Word.{Word}
+use Rattle.rm_script.specs.Lines.{lines_of}
+use Rattle.rm_script.specs.Operations.{IsLine}
+use Rattle.rm_script.specs.Turns.{IsTurnLine}
 
--- the lines of the bytes, which end with LF; the last one may lack it
-abbrev pub lines_of : List ℕ → List (List ℕ)
-lines_of [] = []
-lines_of (byte ∷ bytes) = if byte == 10 then [] ∷ lines_of bytes else onto_first byte (lines_of bytes)
+-- the line with which the session with this number begins
+abbrev pub session_text : ℕ → List ℕ
+session_text number = codes "session " ++ decimal number
 
--- a row as a count, a star and a byte: that byte as often
-pub record IsRepeated (row text : List ℕ) : Type 0 where
-  pub count : ℕ
-  pub byte : ℕ
-  pub short : count ≤ MAX_ROW
-  pub is_byte : byte < 256
-  pub row_is : row ≡ replicate count byte
-  pub text_is : text ≡ decimal count ++ (codes "*" ++ hex_byte byte)
+-- the turn lines spell the words, in a script of this many sessions
+abbrev pub AreTurnLines : ℕ → List Word → List (List ℕ) → Type 0
+AreTurnLines sessions words [] = words ≡ []
+AreTurnLines sessions words (text ∷ texts) = (own rest : List Word) × IsTurnLine sessions own text × AreTurnLines sessions rest texts × (words ≡ own ++ rest)
 
--- a row written out, which is not empty
-pub record IsWrittenOut (row text : List ℕ) : Type 0 where
-  pub nonempty : 0 < length row
-  pub short : length row ≤ MAX_ROW
-  pub are_bytes : AllByRecursion (λ byte. byte < 256) row
-  pub text_is : text ≡ hex row
+-- what stands after the sessions: nothing, or `turns` and turn lines
+abbrev pub IsEnd : ℕ → List Word → List (List ℕ) → Type 0
+IsEnd sessions words [] = words ≡ []
+IsEnd sessions words (text ∷ texts) = (text ≡ codes "turns") × AreTurnLines sessions words texts
 
--- the text spells the row
-abbrev pub IsRow : List ℕ → List ℕ → Type 0
-IsRow row text = IsRepeated row text ⊎ IsWrittenOut row text
+-- what is left of a script in its nth session: lines of that session, further sessions, and turn words
+abbrev pub IsLeft : ℕ → List Line → List (List Line) → List Word → List (List ℕ) → Type 0
+IsLeft n (said ∷ lines) sessions words [] = ⊥
+IsLeft n (said ∷ lines) sessions words (text ∷ texts) = IsLine said text × IsLeft n lines sessions words texts
+IsLeft n [] (lines ∷ sessions) words [] = ⊥
+IsLeft n [] (lines ∷ sessions) words (text ∷ texts) = (n < MAX_SESSIONS) × (text ≡ session_text (suc n)) × IsLeft (suc n) lines sessions words texts
+IsLeft n [] [] words texts = IsEnd n words texts
 
--- a dollar sign and a letter, `a` for the first name
-abbrev pub name_text : ℕ → List ℕ
-name_text name = 36 ∷ (97 + name) ∷ []
+-- the texts are the lines of a script of these sessions and words
+abbrev pub IsScript : List (List Line) → List Word → List (List ℕ) → Type 0
+IsScript sessions words texts = IsLeft 0 [] sessions words texts
 
--- the text spells the target
-abbrev pub IsTarget : Target → List ℕ → Type 0
-IsTarget (target.Name name) text = (name < 26) × (text ≡ name_text name)
-IsTarget (target.At rid) text = (rid.page < 2 ^ 32) × (rid.slot < 2 ^ 16) × (text ≡ place rid)
+-- the lines of each session
+abbrev pub lines_in : List (Vec Line Global) → List (List Line)
+lines_in sessions = map (λ (lines : Vec Line Global). lines.items) sessions
 
--- the text spells the line
-abbrev pub IsLine : Line → List ℕ → Type 0
-IsLine line.Begin text = text ≡ codes "begin"
-IsLine (line.Insert name row) text = (name < 26) × ((spelling : List ℕ) × IsRow row spelling × (text ≡ codes "insert " ++ (name_text name ++ (codes " " ++ spelling))))
-IsLine (line.Read read) text = (spelling : List ℕ) × IsTarget read spelling × (text ≡ codes "read " ++ spelling)
-IsLine line.Commit text = text ≡ codes "commit"
+-- the bytes spell the script
+abbrev pub Spells : Script → List ℕ → Type 0
+Spells script bytes = IsScript (lines_in script.sessions.items) script.words.items (lines_of bytes)
 
--- the texts spell the lines, one each
-abbrev pub AreLines : List Line → List (List ℕ) → Type 0
-AreLines [] [] = Unit {0}
-AreLines (said ∷ lines) (text ∷ texts) = IsLine said text × AreLines lines texts
-AreLines [] (text ∷ texts) = ⊥
-AreLines (said ∷ lines) [] = ⊥
+-- some script begins with these lines
+abbrev pub BeginsScript : List (List ℕ) → Type 0
+BeginsScript texts = (sessions : List (List Line)) × (words : List Word) × (more : List (List ℕ)) × IsScript sessions words (texts ++ more)
 
--- the bytes are the plain form of a script of these lines
-abbrev pub IsPlain : List Line → List ℕ → Type 0
-IsPlain lines bytes = AreLines lines (lines_of bytes)
-
--- the text spells no line
-abbrev pub IsWrong : List ℕ → Type 0
-IsWrong text = (said : Line) → IsLine said text → ⊥
-
--- the line with this number, from 1, is the first that is wrong
+-- the line with this number, from 1, is the first that is wrong: a script begins with those before it, and none goes on
+-- with it
 pub record IsFirstWrong (number : ℕ) (bytes : List ℕ) : Type 0 where
-  pub before : List Line
   pub right : List (List ℕ)
   pub wrong : List ℕ
   pub rest : List (List ℕ)
   pub cut : lines_of bytes ≡ right ++ wrong ∷ rest
-  pub spelled : AreLines before right
-  pub is_wrong : IsWrong wrong
+  pub begins : BeginsScript right
+  pub goes_wrong : BeginsScript (right ++ wrong ∷ []) → ⊥
   pub is_number : number ≡ length right + 1
-
--- the lines of a script of one session: the session's number, its operations, and how they are run
-abbrev pub session_texts : List (List ℕ) → List (List ℕ)
-session_texts inner = codes "session 1" ∷ inner ++ codes "turns" ∷ codes "finish 200000" ∷ []
-
--- the texts are such a script, and its operations are these lines
-abbrev pub IsSessionForm : List Line → List (List ℕ) → Type 0
-IsSessionForm lines texts = (inner : List (List ℕ)) × AreLines lines inner × (texts ≡ session_texts inner)
-
--- the bytes are the form of `turns` of a script of these lines
-abbrev pub IsTurns : List Line → List ℕ → Type 0
-IsTurns lines bytes = IsSessionForm lines (lines_of bytes)
-
--- some script in the form of `turns` begins with these texts
-abbrev pub BeginsTurns : List (List ℕ) → Type 0
-BeginsTurns texts = (lines : List Line) × (more : List (List ℕ)) × IsSessionForm lines (texts ++ more)
-
--- after the texts that are right the script ends and is not whole, or the next text makes it wrong
-abbrev pub GoesWrong : List (List ℕ) → List (List ℕ) → Type 0
-GoesWrong right [] = (lines : List Line) → IsSessionForm lines right → ⊥
-GoesWrong right (wrong ∷ rest) = BeginsTurns (right ++ wrong ∷ []) → ⊥
-
--- of a script for `turns` the line with this number, from 1, is the first that is wrong or lacking
-pub record IsFirstWrongTurns (number : ℕ) (bytes : List ℕ) : Type 0 where
-  pub right : List (List ℕ)
-  pub rest : List (List ℕ)
-  pub cut : lines_of bytes ≡ right ++ rest
-  pub begins : BeginsTurns right
-  pub goes_wrong : GoesWrong right rest
-  pub is_number : number ≡ length right + 1
-
--- the script is as long as a script may be
-pub record IsWithinLimits (bytes : List ℕ) : Type 0 where
-  pub few_bytes : length bytes ≤ MAX_BYTES
-  pub few_lines : length (lines_of bytes) ≤ MAX_LINES

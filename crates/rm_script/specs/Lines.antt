@@ -1,21 +1,8 @@
-use Rattle.std.specs.Prelude.{List, Option, Some, None}
-use Rattle.rm_types.specs.declared.numbers.Rid.{Rid}
-use Rattle.rm_script.specs.declared.lines.Line.{Line}
-use Rattle.rm_script.specs.declared.lines.Line.TheVariants as line
-use Rattle.rm_script.specs.declared.lines.Target.TheVariants as target
-use Rattle.rm_types.specs.declared.operations.Op.{Op}
-use Rattle.rm_types.specs.declared.operations.Op.TheVariants as op
-use Rattle.rm_script.specs.Bindings.{bound_to}
+-- The lines of some bytes.
+use Rattle.std.specs.Prelude.{ℕ, ◌==◌, if◌then◌else◌, List, [], ◌∷◌}
+use Rattle.std.specs.List.{onto_first}
 
--- a read of the row at this row id, where there is one
-abbrev pub read_of : Option Rid → Op
-read_of None = op.Unbound
-read_of (Some rid) = op.Read rid
-
--- the operation of a line, under these bindings
-abbrev pub op_of : Line → List (Option Rid) → Op
-op_of line.Begin names = op.Begin
-op_of (line.Insert name row) names = op.Insert row
-op_of (line.Read (target.Name name)) names = read_of (bound_to names name)
-op_of (line.Read (target.At rid)) names = op.Read rid
-op_of line.Commit names = op.Commit
+-- the lines of the bytes, which end with LF; the last one may lack it
+abbrev pub lines_of : List ℕ → List (List ℕ)
+lines_of [] = []
+lines_of (byte ∷ bytes) = if byte == 10 then [] ∷ lines_of bytes else onto_first byte (lines_of bytes)

@@ -1,29 +1,37 @@
-//! Scripts: their lines and names, and scripts and replies as text.
+//! The script language: scripts of sessions and turns, read from bytes, and what is printed of them as text.
 //!
-//! A [`Name`] is one of 26 by its type.
-//! A script in either form is read whole or refused at its first wrong line, and each text spells
-//! at most one script, so what is read is what was written. Both limits of a script are tested before
-//! any of its lines is read. A reply is appended to a buffer as one line, whole or not at all.
+//! Bytes spell at most one script. A script is read whole or refused: its bytes and lines are counted first, and then
+//! it is refused at its first wrong line alone. A text is appended to a buffer as one line, whole or not at all.
 #![tactic(auto)]
 
-mod bindings;
+mod counts;
 mod cuts;
 mod fields;
-mod instructions;
 mod laws;
+mod limits;
 mod lines;
+mod operations;
+mod parts;
 mod reading;
 mod refused;
 mod rows;
 mod texts;
+mod turns;
 
-pub use bindings::Names;
-pub use fields::number;
+pub use counts::turn_count;
+pub use cuts::cut;
+pub use fields::{name_of, number, target_of};
 pub use laws::{
-    bytes_spell_one_script, each_text_is_one_line, one_line_is_the_first_wrong,
-    turns_spell_one_script,
+    a_script_may_end_after_any_line, bytes_spell_one_script, each_text_is_one_line,
+    one_line_is_the_first_wrong,
 };
-pub use lines::{Line, MAX_BYTES, MAX_LINES, Name, Script, Target, Which};
-pub use reading::{read_plain, read_turns};
+pub use limits::{MAX_BYTES, MAX_LINES, MAX_TURNS, Which};
+pub use lines::{first_line, line_count};
+pub use parts::{Part, write_line};
+pub use reading::read_script;
 pub use refused::ScriptRefused;
-pub use texts::{created_text, reply_text, restart_text, turn_text, unfinished_text};
+pub use rows::row_of;
+pub use texts::{
+    created_text, entry_text, mismatches_text, pages_text, reply_text, restart_text, row_text,
+    rows_text, turn_text, unfinished_text, waits_text,
+};

@@ -1,116 +1,37 @@
-//! The lines of a script.
+//! The lines of a script's bytes.
 
-ghost use Rattle.std.specs.Prelude.{◌≡◌, ℕ, ◌<◌, List, IfOk, OnErr};
-ghost use Rattle.rm_script.specs.declared.lines.Line.TheVariants.{Insert};
-ghost use Rattle.rm_script.specs.Lines.{op_of};
+ghost use Rattle.std.specs.Prelude.{◌≡◌, ◌==◌, ◌<◌, ◌^◌, [], ◌∷◌, length, count_by, IfSome, IfNone};
+ghost use Rattle.rm_script.specs.Lines.{lines_of};
 
-use crate::bindings::Names;
-use rm_types::{NoMemory, Op, Rid, Row};
-use std::fmt;
-use std::marker::Model;
+use crate::cuts::cut;
 
-/// One of the names `$a` to `$z`, by its number from 0.
-#[derive(Clone, Copy, Debug)]
-pub struct Name {
-    number: u8,
+/// How many lines the bytes have.
+pub fn line_count(bytes: &[u8]) -> usize
+    requires { length bytes.now < 2 ^ 63 }
+    ensures { result ≡ length (lines_of bytes.now) }
+{
+    let Some(last) = bytes.last() else {
+        return 0;
+    };
+    let ends = line_ends(bytes);
+    if *last == b'\n' { ends } else { ends + 1 }
 }
 
-impl Model for Name {
-    ghost use Rattle.std.specs.Prelude.{ℕ, ◌<◌};
-
-    ghost Value = { ℕ };
-
-    ghost view = { λ name. name.number };
-
-    ghost invariant = { λ name. name.number < 26 };
-
-    ghost inverse = { λ n. record { number = n } };
+/// How many of the bytes end a line.
+fn line_ends(bytes: &[u8]) -> usize
+    ensures { result ≡ count_by (λ byte. byte == 10) bytes.now }
+{
+    bytes.iter().filter(|byte| **byte == b'\n').count()
 }
 
-impl Name {
-    /// How many names there are.
-    pub const COUNT: u8 = 26;
-
-    /// The name with this number.
-    pub fn new(number: u8) -> Name
-        requires { number < Name.COUNT }
-        ensures { result ≡ number }
-    {
-        Name { number }
+/// The first line, without its end, and what stands after it, or `None` where nothing is left.
+pub fn first_line(bytes: &[u8]) -> Option<(&[u8], &[u8])>
+    ensures some { IfSome result (λ parts. lines_of bytes.now ≡ parts.0.now ∷ lines_of parts.1.now) }
+    ensures shorter { IfSome result (λ parts. length parts.1.now < length bytes.now) }
+    ensures none { IfNone result (bytes.now ≡ []) }
+{
+    if bytes.is_empty() {
+        return None;
     }
-
-    /// Its number, below [`Name::COUNT`].
-    pub fn number(self) -> u8
-        ensures value { result ≡ self }
-        ensures in_range { self < Name.COUNT }
-    {
-        self.number
-    }
-}
-
-/// The row that a line speaks of.
-#[derive(Clone, Copy, Debug)]
-pub enum Target {
-    /// The row that an insert of this session bound to the name.
-    Name(Name),
-    /// The row at that place.
-    At(Rid),
-}
-
-/// One line of a session.
-#[derive(Debug, Drop)]
-pub enum Line {
-    Begin,
-    /// Inserts the row, and binds the name to its place.
-    Insert(Name, Row),
-    Read(Target),
-    Commit,
-}
-
-impl Line {
-    /// The line's operation, with its name read as it is bound now: [`Op::Unbound`] exactly where it is not.
-    /// Only an insert takes memory.
-    pub fn op(&self, names: &Names) -> Result<Op, NoMemory>
-        ensures value { IfOk result (λ op. op ≡ op_of self.now names.now) }
-        ensures memory { OnErr result ((name : ℕ) × (row : List ℕ) × (self.now ≡ Insert name row)) }
-    {
-        Ok(match self {
-            Line::Begin => Op::Begin,
-            Line::Insert(_, row) => Op::Insert(row.try_clone()?),
-            Line::Read(Target::Name(name)) => match names.get(*name) {
-                Some(rid) => Op::Read(rid),
-                None => Op::Unbound,
-            },
-            Line::Read(Target::At(rid)) => Op::Read(*rid),
-            Line::Commit => Op::Commit,
-        })
-    }
-}
-
-/// A script: the lines of its one session, in order.
-#[derive(Debug, Drop)]
-pub struct Script {
-    pub lines: Vec<Line>,
-}
-
-/// The most bytes that a script has.
-pub const MAX_BYTES: usize = 16_777_216;
-
-/// The most lines that a script has.
-pub const MAX_LINES: usize = 100_000;
-
-/// What a script has a limit on.
-#[derive(Clone, Copy, Debug, PartialEq, Eq)]
-pub enum Which {
-    Bytes,
-    Lines,
-}
-
-impl fmt::Display for Which {
-    fn fmt<W: fmt::Write>(&self, f: &mut fmt::Formatter<W>) -> fmt::Result {
-        f.write_str(match self {
-            Which::Bytes => "bytes",
-            Which::Lines => "lines",
-        })
-    }
+    Some(cut(b'\n', bytes).unwrap_or((bytes, &[])))
 }

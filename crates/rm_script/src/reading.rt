@@ -1,125 +1,90 @@
 //! Reading a whole script.
 
-ghost use Rattle.std.specs.Prelude.{◌≡◌, ◌==◌, ◌<◌, ◌≤◌, [], ◌∷◌, length, count_by, IfOk, IfErr, IfSome, IfNone};
-ghost use Rattle.rm_script.specs.Grammar.{IsPlain, IsTurns, IsWithinLimits, lines_of};
-ghost use Rattle.rm_script.specs.Reading.{HasRead, LacksFirst, StopsAt};
-ghost use Rattle.rm_script.specs.Refusals.{HasTooMuch, Refuses, RefusesTurns};
+ghost use Rattle.std.specs.Prelude.{◌≡◌, suc, ◌<◌, ◌≤◌, ◌∷◌, length, IfOk, IfErr, IfSome, IfNone};
+ghost use Rattle.std.specs.List.{AllZip};
+ghost use Rattle.rm_script.specs.Grammar.{AreTurnLines, Spells, lines_in, session_text};
+ghost use Rattle.rm_script.specs.Lines.{lines_of};
+ghost use Rattle.rm_script.specs.Operations.{IsLine};
+ghost use Rattle.rm_script.specs.Reading.{AreSessions, HasEnd, HasRead, IsSomeLine, IsSomeTurnLine, LacksFirst, SessionsStop, StopsAt};
+ghost use Rattle.rm_script.specs.Refusals.{IsWithinLimits, Refuses};
 
-use crate::cuts::cut;
-use crate::instructions::line_of;
-use crate::lines::{Line, MAX_BYTES, MAX_LINES, Script, Which};
+use crate::fields::number;
+use crate::limits::count_within_limits;
+use crate::lines::{first_line, line_count};
+use crate::operations::line_of;
 use crate::refused::ScriptRefused;
-use rm_types::NoMemory;
+use crate::turns::push_turn_line;
+use rm_events::{Line, Script, Word};
+use rm_types::{MAX_SESSIONS, NoMemory};
 use std::alloc::Global;
 
-const SESSION: &[u8] = b"session 1";
+const SESSION: &[u8] = b"session ";
 
 const TURNS: &[u8] = b"turns";
 
-const FINISH: &[u8] = b"finish 200000";
-
-/// The lines of a script in the plain form: both limits are tested first, bytes before lines.
-pub fn read_plain(alloc: Global, bytes: &[u8]) -> Result<Script, ScriptRefused>
-    ensures plain { IfOk result (λ script. IsWithinLimits bytes.now × IsPlain script.lines.items bytes.now) }
+/// The script that the bytes spell.
+///
+/// # Errors
+///
+/// [`ScriptRefused::Limit`] for too many bytes, and then for too many lines; [`ScriptRefused::Bad`] with the number of
+/// the first wrong line; [`ScriptRefused::NoMemory`].
+pub fn read_script(alloc: Global, bytes: &[u8]) -> Result<Script, ScriptRefused>
+    ensures script { IfOk result (λ script. IsWithinLimits bytes.now × Spells script bytes.now) }
     ensures refused { IfErr result (Refuses bytes.now) }
 {
     let count = count_within_limits(bytes)?;
-    let (lines, rest) = read_lines(alloc, bytes, count)?;
-    if !rest.is_empty() {
-        return Err(ScriptRefused::Bad {
-            line: lines.len() as u64 + 1,
-        });
+    let (sessions, rest) = read_sessions(alloc, bytes)?;
+    let (words, rest) = read_turns(alloc, sessions.len(), rest)?;
+    if rest.is_empty() {
+        return Ok(Script { sessions, words });
     }
-    Ok(Script { lines })
+    let right = (count - line_count(rest)) as u64;
+    Err(ScriptRefused::Bad { line: right + 1 })
 }
 
-/// The lines of a script in the form of `turns`, those of its one session: both limits are tested first,
-/// bytes before lines.
-pub fn read_turns(alloc: Global, bytes: &[u8]) -> Result<Script, ScriptRefused>
-    ensures turns { IfOk result (λ script. IsWithinLimits bytes.now × IsTurns script.lines.items bytes.now) }
-    ensures refused { IfErr result (RefusesTurns bytes.now) }
+/// Reads sessions up to the first line that is no operation of theirs and does not begin the next one, and gives what is
+/// left from there.
+fn read_sessions(alloc: Global, bytes: &[u8]) -> Result<(Vec<Vec<Line>>, &[u8]), NoMemory>
+    ensures read { IfOk result (λ read. HasRead (AreSessions (length read.0.items) (lines_in read.0.items)) bytes.now read.1.now) }
+    ensures stops { IfOk result (λ read. SessionsStop (length read.0.items) (lines_of read.1.now)) }
+    ensures shorter { IfOk result (λ read. length read.1.now ≤ length bytes.now) }
 {
-    let count = count_within_limits(bytes)?;
-    let Some(rest) = after_line(SESSION, bytes) else {
-        return Err(ScriptRefused::Bad { line: 1 });
-    };
-    let (lines, rest) = read_lines(alloc, rest, count)?;
-    let number = lines.len() as u64;
-    let Some(rest) = after_line(TURNS, rest) else {
-        return Err(ScriptRefused::Bad { line: number + 2 });
-    };
-    let Some(rest) = after_line(FINISH, rest) else {
-        return Err(ScriptRefused::Bad { line: number + 3 });
-    };
-    if !rest.is_empty() {
-        return Err(ScriptRefused::Bad { line: number + 4 });
+    let mut sessions = Vec::new(alloc);
+    let mut rest = bytes;
+    while let Some(after) = after_session(sessions.len(), rest) {
+        let (lines, left) = read_lines(alloc, after)?;
+        sessions.push(lines)?;
+        rest = left;
     }
-    Ok(Script { lines })
+    Ok((sessions, rest))
 }
 
-/// How many lines the bytes have, where they are within the limits of a script.
-fn count_within_limits(bytes: &[u8]) -> Result<usize, Which>
-    ensures within { IfOk result (λ count. IsWithinLimits bytes.now) }
-    ensures counts { IfOk result (λ count. count ≡ length (lines_of bytes.now)) }
-    ensures over { IfErr result (HasTooMuch bytes.now) }
+/// What stands after the line that begins the session after `count` others, where that is the first line.
+fn after_session(count: usize, bytes: &[u8]) -> Option<&[u8]>
+    ensures few { IfSome result (λ rest. count < MAX_SESSIONS) }
+    ensures some { IfSome result (λ rest. lines_of bytes.now ≡ session_text (suc count) ∷ lines_of rest.now) }
+    ensures shorter { IfSome result (λ rest. length rest.now < length bytes.now) }
+    ensures none { IfNone result (count < MAX_SESSIONS → LacksFirst (session_text (suc count)) (lines_of bytes.now)) }
 {
-    if bytes.len() > MAX_BYTES {
-        return Err(Which::Bytes);
-    }
-    let count = line_count(bytes);
-    if count > MAX_LINES {
-        return Err(Which::Lines);
-    }
-    Ok(count)
-}
-
-/// How many lines the bytes have.
-fn line_count(bytes: &[u8]) -> usize
-    requires { length bytes.now ≤ MAX_BYTES }
-    ensures { result ≡ length (lines_of bytes.now) }
-{
-    let Some(last) = bytes.last() else {
-        return 0;
-    };
-    let ends = line_ends(bytes);
-    if *last == b'\n' { ends } else { ends + 1 }
-}
-
-/// How many of the bytes end a line.
-fn line_ends(bytes: &[u8]) -> usize
-    ensures { result ≡ count_by (λ byte. byte == 10) bytes.now }
-{
-    bytes.iter().filter(|byte| **byte == b'\n').count()
-}
-
-/// The first line, without its end, and what stands after it, or `None` where nothing is left.
-fn first_line(bytes: &[u8]) -> Option<(&[u8], &[u8])>
-    ensures some { IfSome result (λ parts. lines_of bytes.now ≡ parts.0.now ∷ lines_of parts.1.now) }
-    ensures shorter { IfSome result (λ parts. length parts.1.now < length bytes.now) }
-    ensures none { IfNone result (bytes.now ≡ []) }
-{
-    if bytes.is_empty() {
+    if count >= usize::from(MAX_SESSIONS) {
         return None;
     }
-    Some(cut(b'\n', bytes).unwrap_or((bytes, &[])))
-}
-
-/// What stands after the first line, where that is `line`.
-fn after_line<'a>(line: &[u8], bytes: &'a [u8]) -> Option<&'a [u8]>
-    ensures some { IfSome result (λ rest. lines_of bytes.now ≡ line.now ∷ lines_of rest.now) }
-    ensures none { IfNone result (LacksFirst line.now (lines_of bytes.now)) }
-{
     let (text, after) = first_line(bytes)?;
-    if text == line { Some(after) } else { None }
+    let session = number(text.strip_prefix(SESSION)?)?;
+    if session == count as u32 + 1 {
+        Some(after)
+    } else {
+        None
+    }
 }
 
-/// Reads lines up to the first text that spells none, and gives what is left from there; there are at most
-/// `count`.
-fn read_lines(alloc: Global, bytes: &[u8], count: usize) -> Result<(Vec<Line>, &[u8]), NoMemory>
-    ensures read { IfOk result (λ read. HasRead bytes.now read.0.items read.1.now) }
-    ensures stops { IfOk result (λ read. StopsAt (lines_of read.1.now)) }
+/// Reads operation lines up to the first text that is none, and gives what is left from there.
+fn read_lines(alloc: Global, bytes: &[u8]) -> Result<(Vec<Line>, &[u8]), NoMemory>
+    ensures read { IfOk result (λ read. HasRead (AllZip IsLine read.0.items) bytes.now read.1.now) }
+    ensures stops { IfOk result (λ read. StopsAt IsSomeLine (lines_of read.1.now)) }
+    ensures shorter { IfOk result (λ read. length read.1.now ≤ length bytes.now) }
 {
-    let mut lines = Vec::with_capacity(alloc, count)?;
+    let mut lines = Vec::new(alloc);
     let mut rest = bytes;
     while let Some((text, after)) = first_line(rest) {
         let Some(line) = line_of(alloc, text)? else {
@@ -129,4 +94,41 @@ fn read_lines(alloc: Global, bytes: &[u8], count: usize) -> Result<(Vec<Line>, &
         rest = after;
     }
     Ok((lines, rest))
+}
+
+/// Reads the line `turns` and turn lines up to the first line that is none, and gives what is left from there.
+fn read_turns(alloc: Global, sessions: usize, bytes: &[u8]) -> Result<(Vec<Word>, &[u8]), NoMemory>
+    requires { sessions ≤ MAX_SESSIONS }
+    ensures read { IfOk result (λ read. HasEnd sessions read.0.items bytes.now read.1.now) }
+    ensures shorter { IfOk result (λ read. length read.1.now ≤ length bytes.now) }
+{
+    let Some((text, rest)) = first_line(bytes) else {
+        return Ok((Vec::new(alloc), bytes));
+    };
+    if text != TURNS {
+        return Ok((Vec::new(alloc), bytes));
+    }
+    read_turn_lines(alloc, sessions, rest)
+}
+
+/// Reads turn lines up to the first line that is none, and gives what is left from there.
+fn read_turn_lines(
+    alloc: Global,
+    sessions: usize,
+    bytes: &[u8],
+) -> Result<(Vec<Word>, &[u8]), NoMemory>
+    requires { sessions ≤ MAX_SESSIONS }
+    ensures read { IfOk result (λ read. HasRead (AreTurnLines sessions read.0.items) bytes.now read.1.now) }
+    ensures stops { IfOk result (λ read. StopsAt (IsSomeTurnLine sessions) (lines_of read.1.now)) }
+    ensures shorter { IfOk result (λ read. length read.1.now ≤ length bytes.now) }
+{
+    let mut words = Vec::new(alloc);
+    let mut rest = bytes;
+    while let Some((text, after)) = first_line(rest) {
+        if !push_turn_line(sessions, text, &mut words)? {
+            return Ok((words, rest));
+        }
+        rest = after;
+    }
+    Ok((words, rest))
 }

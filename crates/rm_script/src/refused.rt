@@ -3,15 +3,15 @@
 ghost use Rattle.std.specs.Prelude.{◌≡◌};
 ghost use Rattle.rm_script.specs.declared.refused.ScriptRefused.TheVariants as refused;
 
-use crate::lines::Which;
+use crate::limits::Which;
 use std::alloc::{AllocError, AllocFailed};
 use thiserror::Error;
 
-/// Why bytes are no script in the form that was asked for.
+/// Why bytes are no script, or a script's words too many turns.
 #[derive(Clone, Copy, Debug, PartialEq, Eq, Error)]
 pub enum ScriptRefused {
-    /// That line, from 1, is the first that is wrong, or that is lacking where the script ends too early.
-    #[error("line {line} of the script is wrong or lacking")]
+    /// That line, from 1, is the first that is wrong.
+    #[error("line {line} of the script is wrong")]
     Bad { line: u64 },
     /// The script has more of that than its limit.
     #[error("the script has too many {which}")]

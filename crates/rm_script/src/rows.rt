@@ -1,11 +1,10 @@
 //! The spellings of rows.
 
 ghost use Rattle.std.specs.Prelude.{◌≡◌, ℕ, ◌<◌, List, [], ◌∷◌, IfOk, IfSome, IfNone};
-ghost use Rattle.rm_script.specs.Texts.{hex_byte, hex_digit};
-ghost use Rattle.rm_script.specs.Grammar.{IsRow, IsWrittenOut};
+ghost use Rattle.rm_script.specs.Rows.{IsRow, IsWrittenOut, hex_byte, hex_digit};
 
 use crate::cuts::cut;
-use crate::fields::row_length;
+use crate::fields::number_within;
 use rm_types::{MAX_ROW, NoMemory, Row};
 use std::alloc::Global;
 
@@ -71,18 +70,18 @@ fn written_out(alloc: Global, text: &[u8]) -> Result<Option<Row>, NoMemory>
 }
 
 /// The row that the text spells, or `None` where it spells none.
-pub(crate) fn row_of(alloc: Global, text: &[u8]) -> Result<Option<Row>, NoMemory>
+pub fn row_of(alloc: Global, text: &[u8]) -> Result<Option<Row>, NoMemory>
     ensures some { IfOk result (λ found. IfSome found (λ row. IsRow row text.now)) }
     ensures none { IfOk result (λ found. IfNone found ((row : List ℕ) → IsRow row text.now → ⊥)) }
 {
     let Some((count, byte)) = cut(b'*', text) else {
         return written_out(alloc, text);
     };
-    let Some(count) = row_length(count) else {
+    let Some(count) = number_within(0, MAX_ROW as u32, count) else {
         return Ok(None);
     };
     let Some(byte) = byte_of(byte) else {
         return Ok(None);
     };
-    Ok(Some(Row::repeated(alloc, byte, count)?))
+    Ok(Some(Row::repeated(alloc, byte, count as usize)?))
 }

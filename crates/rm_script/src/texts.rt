@@ -1,53 +1,100 @@
 //! How replies and the other lines that are printed are written.
+//!
+//! Each function appends one line, and [`NoMemory`] leaves `out` as it was.
 
-ghost use Rattle.std.specs.Prelude.{◌≡◌, ◌≤◌, ◌++◌, codes, decimal, length, take, OnOk, OnErr, vec_len};
-ghost use Rattle.rm_script.specs.Texts.{created_line, hex, place, restart_line, shown, text_of, turn_line, unfinished_line};
+ghost use Rattle.std.specs.Prelude.{◌≡◌, ◌++◌, OnOk, OnErr};
+ghost use Rattle.rm_script.specs.Parts.{parts_text};
+ghost use Rattle.rm_script.specs.Texts.{created_line, entry_line, mismatches_line, pages_line, restart_line, row_line, rows_line, text_of, turn_line, unfinished_line, waits_line, words_of};
 
-use itoa::Buffer;
-use rm_types::{MAX_ROW, NoMemory, Reply, Rid, TxnId};
+use crate::parts::{Part, write_line};
+use rm_events::Reply;
+use rm_types::{NoMemory, Rid, Row, TxnId};
 
-/// Appends a reply's line. `NoMemory` leaves `out` as it was.
+/// The words of a reply: one as it stands, and what comes after it.
+fn words(reply: &Reply) -> [Part<'_>; 2]
+    ensures { parts_text result ≡ words_of reply.now }
+{
+    match reply {
+        Reply::Began(id) => [Part::Word(b"begin "), Part::Number(u64::from(id.0))],
+        Reply::Inserted(rid) => [Part::Word(b"inserted "), Part::Place(*rid)],
+        Reply::NoSpace => alone(b"nospace"),
+        Reply::Row(row) => [Part::Word(b"row "), Part::Row(row)],
+        Reply::NoRow => alone(b"norow"),
+        Reply::Updated => alone(b"updated"),
+        Reply::Deleted => alone(b"deleted"),
+        Reply::PageFull { room } => [Part::Word(b"pagefull "), Part::Number(u64::from(*room))],
+        Reply::BadRid => alone(b"badrid"),
+        Reply::Saved(number) => [Part::Word(b"saved "), Part::Number(u64::from(*number))],
+        Reply::BackTo(number) => [Part::Word(b"back "), Part::Number(u64::from(*number))],
+        Reply::NoSavepoint(number) => {
+            [
+                Part::Word(b"nosavepoint "),
+                Part::Number(u64::from(*number)),
+            ]
+        }
+        Reply::Committed => alone(b"committed"),
+        Reply::Aborted => alone(b"aborted"),
+        Reply::Died { holder } => [Part::Word(b"died "), Part::Number(u64::from(holder.0))],
+        Reply::Unbound => alone(b"unbound"),
+        Reply::Skipped => alone(b"skipped"),
+    }
+}
+
+/// A word with nothing after it.
+fn alone(word: &[u8]) -> [Part<'_>; 2]
+    ensures { parts_text result ≡ word.now }
+{
+    [Part::Word(word), Part::Word(b"")]
+}
+
+/// The line of a reply.
 pub fn reply_text(reply: &Reply, out: &mut Vec<u8>) -> Result<(), NoMemory>
     ensures ok { OnOk result (out.new.items ≡ out.old.items ++ text_of reply.now) }
     ensures err { OnErr result (out.new.items ≡ out.old.items) }
 {
-    let start = out.len();
-    let written = append_reply(reply, out);
-    whole_or_nothing(written, start, out)
+    write_line(&words(reply), out)
 }
 
-/// Appends a reply's line of `turns`, after its session's number. `NoMemory` leaves `out` as it was.
+/// A reply's line of `turns`, after its session's number.
 pub fn turn_text(session: u8, reply: &Reply, out: &mut Vec<u8>) -> Result<(), NoMemory>
     ensures ok { OnOk result (out.new.items ≡ out.old.items ++ turn_line session reply.now) }
     ensures err { OnErr result (out.new.items ≡ out.old.items) }
 {
-    let start = out.len();
-    let written = append_turn(session, reply, out);
-    whole_or_nothing(written, start, out)
+    let [word, rest] = words(reply);
+    let number = Part::Number(u64::from(session));
+    write_line(&[number, Part::Word(b" "), word, rest], out)
 }
 
-/// Appends the line of a transaction that its session left open. `NoMemory` leaves `out` as it was.
+/// The line of a session that waits for the transaction `holder`.
+pub fn waits_text(session: u8, holder: TxnId, out: &mut Vec<u8>) -> Result<(), NoMemory>
+    ensures ok { OnOk result (out.new.items ≡ out.old.items ++ waits_line session holder.0) }
+    ensures err { OnErr result (out.new.items ≡ out.old.items) }
+{
+    let number = Part::Number(u64::from(session));
+    let holder = Part::Number(u64::from(holder.0));
+    write_line(&[number, Part::Word(b" waits "), holder], out)
+}
+
+/// The line of a transaction that its session left open.
 pub fn unfinished_text(session: u8, txn: TxnId, out: &mut Vec<u8>) -> Result<(), NoMemory>
     ensures ok { OnOk result (out.new.items ≡ out.old.items ++ unfinished_line session txn.0) }
     ensures err { OnErr result (out.new.items ≡ out.old.items) }
 {
-    let start = out.len();
-    let written = append_unfinished(session, txn, out);
-    whole_or_nothing(written, start, out)
+    let number = Part::Number(u64::from(session));
+    let txn = Part::Number(u64::from(txn.0));
+    write_line(&[number, Part::Word(b" unfinished "), txn], out)
 }
 
-/// Appends the line of a volume that was created, with this many pages. `NoMemory` leaves `out` as it was.
+/// The line of a volume that was created, with this many pages.
 pub fn created_text(pages: u32, out: &mut Vec<u8>) -> Result<(), NoMemory>
     ensures ok { OnOk result (out.new.items ≡ out.old.items ++ created_line pages) }
     ensures err { OnErr result (out.new.items ≡ out.old.items) }
 {
-    let start = out.len();
-    let written = append_created(pages, out);
-    whole_or_nothing(written, start, out)
+    let pages = Part::Number(u64::from(pages));
+    write_line(&[Part::Word(b"created "), pages], out)
 }
 
-/// Appends the line of a restart: how many log records it read, applied and undid. `NoMemory` leaves `out`
-/// as it was.
+/// The line of a restart: how many log records it read, applied and undid.
 pub fn restart_text(
     records: u64,
     applied: u64,
@@ -57,150 +104,69 @@ pub fn restart_text(
     ensures ok { OnOk result (out.new.items ≡ out.old.items ++ restart_line records applied undone) }
     ensures err { OnErr result (out.new.items ≡ out.old.items) }
 {
-    let start = out.len();
-    let written = append_restart(records, applied, undone, out);
-    whole_or_nothing(written, start, out)
+    let parts = [
+        Part::Word(b"records "),
+        Part::Number(records),
+        Part::Word(b" applied "),
+        Part::Number(applied),
+        Part::Word(b" undone "),
+        Part::Number(undone),
+    ];
+    write_line(&parts, out)
 }
 
-// Takes back what was written after the first `start` bytes, where a text was not written whole.
-fn whole_or_nothing(
-    written: Result<(), NoMemory>,
-    start: usize,
-    out: &mut Vec<u8>,
-) -> Result<(), NoMemory>
-    ensures same { result ≡ written }
-    ensures ok { OnOk written (out.new.items ≡ out.old.items) }
-    ensures err { OnErr written (out.new.items ≡ take start out.old.items) }
-{
-    if written.is_err() {
-        out.truncate(start);
-    }
-    written
-}
-
-// On an error the line may stand in part after what `out` had.
-fn append_reply(reply: &Reply, out: &mut Vec<u8>) -> Result<(), NoMemory>
-    ensures ok { OnOk result (out.new.items ≡ out.old.items ++ text_of reply.now) }
-    ensures prefix { take (vec_len out.old) out.new.items ≡ out.old.items }
-{
-    match reply {
-        Reply::Began(id) => append_begin(*id, out)?,
-        Reply::Inserted(rid) => append_inserted(*rid, out)?,
-        Reply::NoSpace => out.extend_from_slice(b"nospace\n")?,
-        Reply::Row(row) => append_row(row.as_slice(), out)?,
-        Reply::NoRow => out.extend_from_slice(b"norow\n")?,
-        Reply::BadRid => out.extend_from_slice(b"badrid\n")?,
-        Reply::Committed => out.extend_from_slice(b"committed\n")?,
-        Reply::Unbound => out.extend_from_slice(b"unbound\n")?,
-        Reply::Skipped => out.extend_from_slice(b"skipped\n")?,
-    }
-    Ok(())
-}
-
-fn append_turn(session: u8, reply: &Reply, out: &mut Vec<u8>) -> Result<(), NoMemory>
-    ensures ok { OnOk result (out.new.items ≡ out.old.items ++ turn_line session reply.now) }
-    ensures prefix { take (vec_len out.old) out.new.items ≡ out.old.items }
-{
-    append_number(u64::from(session), out)?;
-    out.push(b' ')?;
-    append_reply(reply, out)
-}
-
-fn append_unfinished(session: u8, txn: TxnId, out: &mut Vec<u8>) -> Result<(), NoMemory>
-    ensures ok { OnOk result (out.new.items ≡ out.old.items ++ unfinished_line session txn.0) }
-    ensures prefix { take (vec_len out.old) out.new.items ≡ out.old.items }
-{
-    append_number(u64::from(session), out)?;
-    out.extend_from_slice(b" unfinished ")?;
-    append_number(u64::from(txn.0), out)?;
-    out.push(b'\n')?;
-    Ok(())
-}
-
-fn append_created(pages: u32, out: &mut Vec<u8>) -> Result<(), NoMemory>
-    ensures ok { OnOk result (out.new.items ≡ out.old.items ++ created_line pages) }
-    ensures prefix { take (vec_len out.old) out.new.items ≡ out.old.items }
-{
-    out.extend_from_slice(b"created ")?;
-    append_number(u64::from(pages), out)?;
-    out.push(b'\n')?;
-    Ok(())
-}
-
-fn append_restart(
-    records: u64,
-    applied: u64,
-    undone: u64,
-    out: &mut Vec<u8>,
-) -> Result<(), NoMemory>
-    ensures ok { OnOk result (out.new.items ≡ out.old.items ++ restart_line records applied undone) }
-    ensures prefix { take (vec_len out.old) out.new.items ≡ out.old.items }
-{
-    out.extend_from_slice(b"records ")?;
-    append_number(records, out)?;
-    out.extend_from_slice(b" applied ")?;
-    append_number(applied, out)?;
-    out.extend_from_slice(b" undone ")?;
-    append_number(undone, out)?;
-    out.push(b'\n')?;
-    Ok(())
-}
-
-fn append_begin(id: TxnId, out: &mut Vec<u8>) -> Result<(), NoMemory>
-    ensures ok { OnOk result (out.new.items ≡ out.old.items ++ (codes "begin " ++ decimal id.0 ++ codes "\n")) }
-    ensures prefix { take (vec_len out.old) out.new.items ≡ out.old.items }
-{
-    out.extend_from_slice(b"begin ")?;
-    append_number(u64::from(id.0), out)?;
-    out.push(b'\n')?;
-    Ok(())
-}
-
-fn append_inserted(rid: Rid, out: &mut Vec<u8>) -> Result<(), NoMemory>
-    ensures ok { OnOk result (out.new.items ≡ out.old.items ++ (codes "inserted " ++ place rid ++ codes "\n")) }
-    ensures prefix { take (vec_len out.old) out.new.items ≡ out.old.items }
-{
-    out.extend_from_slice(b"inserted ")?;
-    append_number(u64::from(rid.page), out)?;
-    out.push(b'.')?;
-    append_number(u64::from(rid.slot), out)?;
-    out.push(b'\n')?;
-    Ok(())
-}
-
-fn append_number(number: u64, out: &mut Vec<u8>) -> Result<(), NoMemory>
-    ensures ok { OnOk result (out.new.items ≡ out.old.items ++ decimal number) }
+/// The line of how many rows a volume has.
+pub fn rows_text(rows: u64, out: &mut Vec<u8>) -> Result<(), NoMemory>
+    ensures ok { OnOk result (out.new.items ≡ out.old.items ++ rows_line rows) }
     ensures err { OnErr result (out.new.items ≡ out.old.items) }
 {
-    let mut buffer = Buffer::new();
-    out.extend_from_slice(buffer.format(number).as_bytes())?;
-    Ok(())
+    write_line(&[Part::Word(b"rows "), Part::Number(rows)], out)
 }
 
-fn append_row(row: &[u8], out: &mut Vec<u8>) -> Result<(), NoMemory>
-    requires { length row.now ≤ MAX_ROW }
-    ensures ok { OnOk result (out.new.items ≡ out.old.items ++ (codes "row " ++ shown row.now ++ codes "\n")) }
-    ensures prefix { take (vec_len out.old) out.new.items ≡ out.old.items }
-{
-    out.extend_from_slice(b"row ")?;
-    if row.is_empty() {
-        out.push(b'-')?;
-    } else {
-        append_digits(row, out)?;
-    }
-    out.push(b'\n')?;
-    Ok(())
-}
-
-fn append_digits(row: &[u8], out: &mut Vec<u8>) -> Result<(), NoMemory>
-    requires { length row.now ≤ MAX_ROW }
-    ensures ok { OnOk result (out.new.items ≡ out.old.items ++ hex row.now) }
+/// The line of a row and its place.
+pub fn row_text(rid: Rid, row: &Row, out: &mut Vec<u8>) -> Result<(), NoMemory>
+    ensures ok { OnOk result (out.new.items ≡ out.old.items ++ row_line rid row.now) }
     ensures err { OnErr result (out.new.items ≡ out.old.items) }
 {
-    let start = out.len();
-    let digits = 2 * row.len();
-    out.resize(start + digits, 0)?;
-    // It refuses only a place of another length than the digits'.
-    hex::encode_to_slice(row, &mut out[start..]).unwrap();
-    Ok(())
+    write_line(&[Part::Place(rid), Part::Word(b" "), Part::Row(row)], out)
+}
+
+/// The line of the entry that the inventory has for a page.
+pub fn entry_text(page: u32, category: u8, out: &mut Vec<u8>) -> Result<(), NoMemory>
+    ensures ok { OnOk result (out.new.items ≡ out.old.items ++ entry_line page category) }
+    ensures err { OnErr result (out.new.items ≡ out.old.items) }
+{
+    let page = Part::Number(u64::from(page));
+    let category = Part::Number(u64::from(category));
+    write_line(
+        &[Part::Word(b"entry "), page, Part::Word(b" "), category],
+        out,
+    )
+}
+
+/// The line of how many pages a volume has.
+pub fn pages_text(pages: u32, out: &mut Vec<u8>) -> Result<(), NoMemory>
+    ensures ok { OnOk result (out.new.items ≡ out.old.items ++ pages_line pages) }
+    ensures err { OnErr result (out.new.items ≡ out.old.items) }
+{
+    let pages = Part::Number(u64::from(pages));
+    write_line(&[Part::Word(b"pages "), pages], out)
+}
+
+/// The line of how many pages a volume has, and how many of their entries are not their categories.
+pub fn mismatches_text(pages: u32, mismatches: u32, out: &mut Vec<u8>) -> Result<(), NoMemory>
+    ensures ok { OnOk result (out.new.items ≡ out.old.items ++ mismatches_line pages mismatches) }
+    ensures err { OnErr result (out.new.items ≡ out.old.items) }
+{
+    let pages = Part::Number(u64::from(pages));
+    let mismatches = Part::Number(u64::from(mismatches));
+    write_line(
+        &[
+            Part::Word(b"pages "),
+            pages,
+            Part::Word(b" mismatches "),
+            mismatches,
+        ],
+        out,
+    )
 }

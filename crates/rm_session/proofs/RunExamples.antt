@@ -1,8 +1,8 @@
 -- A run by hand: what the definitions allow.
 use Rattle.std.proofs.Common.{ℕ, List, [], ◌∷◌, true, false, refl, arith, lit<, lit≤}
 use Rattle.rm_types.specs.declared.numbers.Rid.{Rid}
-use Rattle.rm_script.specs.declared.lines.Line.TheVariants as line
-use Rattle.rm_script.specs.declared.lines.Target.TheVariants as target
+use Rattle.rm_plain.specs.declared.lines.Line.TheVariants as line
+use Rattle.rm_events.specs.declared.lines.Target.TheVariants as target
 use Rattle.rm_types.specs.declared.operations.Reply.TheVariants as reply
 use Rattle.rm_model.specs.Files.{set_row}
 use Rattle.rm_session.specs.Session.{IsFirstWithRoom, names_after, State, Step, Run, fresh}

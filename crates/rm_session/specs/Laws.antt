@@ -1,7 +1,7 @@
 -- What holds of all sessions.
 use Rattle.std.specs.Prelude.{◌≡◌, List}
 use Rattle.rm_types.specs.declared.operations.Reply.{Reply}
-use Rattle.rm_script.specs.declared.lines.Line.{Line}
+use Rattle.rm_plain.specs.declared.lines.Line.{Line}
 use Rattle.rm_session.specs.Session.{State, Run}
 
 -- every script draws replies, in every state

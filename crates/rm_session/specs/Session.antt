@@ -4,13 +4,13 @@ use Rattle.rm_types.specs.declared.numbers.Rid.{Rid}
 use Rattle.rm_types.specs.declared.numbers.TheConstants.{MAX_SLOT}
 use Rattle.rm_types.specs.declared.slots.Slot.{Slot}
 use Rattle.rm_types.specs.declared.slots.TheConstants.{CAPACITY, SLOT_ENTRY}
-use Rattle.rm_script.specs.declared.lines.Line.{Line}
-use Rattle.rm_script.specs.declared.lines.Line.TheVariants as line
+use Rattle.rm_plain.specs.declared.lines.Line.{Line}
+use Rattle.rm_plain.specs.declared.lines.Line.TheVariants as line
 use Rattle.rm_types.specs.declared.operations.Op.{Op}
 use Rattle.rm_types.specs.declared.operations.Op.TheVariants as op
 use Rattle.rm_types.specs.declared.operations.Reply.{Reply}
 use Rattle.rm_types.specs.declared.operations.Reply.TheVariants as reply
-use Rattle.rm_script.specs.Lines.{op_of}
+use Rattle.rm_plain.specs.Lines.{op_of}
 use Rattle.rm_model.specs.Pages.{used}
 use Rattle.rm_model.specs.Files.{page_at, rows_of, set_row}
 use Rattle.rm_model.specs.Object.{Rows, IsOutside, MayReply}

@@ -15,8 +15,9 @@ ghost use Rattle.rm_model.specs.Files.{slots_of};
 ghost use Rattle.rm_session.specs.Answers.{Draws, IsFull};
 
 pub use laws::{a_script_has_one_run, every_script_runs};
+use rm_events::Names;
 use rm_page::{Page, empty_pages};
-use rm_script::{Line, Names};
+use rm_plain::Line;
 use rm_types::{Lsn, NoMemory, Op, Reply, Rid, Row, TxnId};
 use std::alloc::Global;
 use std::marker::Model;

@@ -12,7 +12,7 @@ use rm_engine::{Engine, TurnFault};
 use rm_master::Master;
 use rm_memory::MemVolume;
 use rm_restart::restart;
-use rm_script::{Line, read_plain, reply_text};
+use rm_plain::{Line, read_plain, reply_text};
 use rm_types::{MAX_LOG, MAX_PAGES, Reply};
 use std::alloc::Global;
 use std::test::Fail;

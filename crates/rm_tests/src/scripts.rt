@@ -1,7 +1,7 @@
-//! Scripts as rm_script reads them.
+//! Scripts as rm_plain reads them.
 
 use crate::texts::lines;
-use rm_script::{ScriptRefused, read_plain, read_turns};
+use rm_plain::{ScriptRefused, read_plain, read_turns};
 use std::alloc::Global;
 use std::test::Fail;
 

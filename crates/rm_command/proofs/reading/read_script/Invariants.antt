@@ -1,5 +1,5 @@
 use Rattle.std.proofs.Common.{◌≡◌, ◌+◌, ◌-◌, ◌≤◌, vec_len}
-use Rattle.rm_script.specs.declared.lines.TheConstants.{MAX_BYTES}
+use Rattle.rm_script.specs.declared.limits.TheConstants.{MAX_BYTES}
 use Rattle.rm_outside.specs.Streams.{Gives}
 use Rattle.rm_command.specs.declared.reading.TheConstants.{CHUNK}
 use Rattle.rm_command.proofs.reading.read_script.Given as goal

@@ -1,6 +1,6 @@
 use Rattle.std.proofs.Common.{List, Option, length}
 use Rattle.std.specs.Prelude.{slice_get}
-use Rattle.rm_script.specs.declared.lines.Line.{Line}
+use Rattle.rm_plain.specs.declared.lines.Line.{Line}
 use Rattle.rm_types.specs.declared.operations.Reply.{Reply}
 use Rattle.rm_outside.specs.Calls.{facts_of, HasFailed}
 use Rattle.rm_command.specs.Turning.{LeavesRun}

@@ -5,7 +5,7 @@ use Rattle.std.proofs.lemmas.Result.{err_from_is_err_and}
 use Rattle.std.proofs.lemmas.List.{take_more}
 use Rattle.std.proofs.lemmas.Option.{slice_get_read}
 use Rattle.rm_types.specs.declared.areas.Area.TheVariants.{Log}
-use Rattle.rm_script.specs.declared.lines.Line.{Line}
+use Rattle.rm_plain.specs.declared.lines.Line.{Line}
 use Rattle.rm_outside.specs.Calls.{facts_of, HasFailed}
 use Rattle.rm_outside.proofs.CallLemmas.{keeps_none, keeps_then}
 use Rattle.rm_outside.proofs.FaultLemmas.{fault_is, Rises-before}

@@ -1,5 +1,5 @@
 use Rattle.std.proofs.Common.{◌≡◌, ◌≤◌, length, inl, inr, arith}
-use Rattle.rm_script.proofs.Numbers.{no_plus, no_leading_zero, not_empty, parsed, unparsed, taken, not_taken, utf8_number}
+use Rattle.rm_script.proofs.Numbers.{one_digit, no_plus, no_leading_zero, not_empty, parsed, unparsed, taken, not_taken, utf8_number}
 use Rattle.rm_script.proofs.fields.number.Goals as goal
 use Rattle.rm_script.proofs.fields.number.Goals.{then-first-eq43-via-then-first-eq43, then-first-eq43-via-else-first-eq43+then-text-gt1}
 
@@ -30,3 +30,6 @@ pub returns-clause-none : goal.returns-clause-none
 returns-clause-none c =
     let same = (taken c.from_utf8.result _ _ c.in_ok-ok.field-0 c.in_ok-ok.ensures.value c.from_utf8.ensures.cases).0 in
     rw c.ok-2.ensures.value (unparsed c.args.text.now c.parse.result (rw same at c.parse.ensures.value.0))
+
+pub returns-in-48-to-57-clause-some : goal.returns-in-48-to-57-clause-some
+returns-in-48-to-57-clause-some c = one_digit c.args.text.now _ (omega arith) (omega arith) (omega arith) (omega arith) c.from.ensures

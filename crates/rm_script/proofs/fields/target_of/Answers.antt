@@ -1,4 +1,4 @@
-use Rattle.rm_script.proofs.Spellings.{no_rid, no_name}
+use Rattle.rm_script.proofs.TargetLaws.{no_rid, no_name}
 use Rattle.rm_script.proofs.fields.target_of.Goals as goal
 
 pub returns-in_err-rid_of-in-Some-clause-none : goal.returns-in_err-rid_of-in-Some-clause-none

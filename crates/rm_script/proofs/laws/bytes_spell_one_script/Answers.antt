@@ -1,4 +1,4 @@
-use Rattle.rm_script.proofs.Readings.{readings_are_one}
+use Rattle.rm_script.proofs.ScriptLaws.{readings_are_one}
 use Rattle.rm_script.proofs.laws.bytes_spell_one_script.Goals as goal
 
 pub returns : goal.returns

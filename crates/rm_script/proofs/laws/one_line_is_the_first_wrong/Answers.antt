@@ -1,5 +1,5 @@
-use Rattle.rm_script.proofs.Turns.{none_wrong, one_wrong}
+use Rattle.rm_script.proofs.ScriptLaws.{first_wrong_is_one}
 use Rattle.rm_script.proofs.laws.one_line_is_the_first_wrong.Goals as goal
 
 pub returns : goal.returns
-returns c = record { none = none_wrong; one = one_wrong }
+returns c = first_wrong_is_one

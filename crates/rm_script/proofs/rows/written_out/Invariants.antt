@@ -1,5 +1,5 @@
 use Rattle.std.proofs.Common.{◌≡◌, ◌++◌, length}
-use Rattle.rm_script.specs.Texts.{hex}
+use Rattle.rm_script.specs.Rows.{hex}
 use Rattle.rm_script.proofs.HexRows.{AreBytes}
 use Rattle.rm_script.proofs.rows.written_out.Given as goal
 

@@ -1,6 +1,6 @@
 use Rattle.std.proofs.Common.{◌≡◌, ◌∙◌, ℕ, ◌+◌, ◌-◌, ◌^◌, ◌≤◌, ◌<◌, refl, sym, ap, subst, inl, arith}
 use Rattle.rm_types.specs.declared.numbers.TxnId.{TxnId}
-use Rattle.rm_script.specs.declared.lines.Line.{Line}
+use Rattle.rm_plain.specs.declared.lines.Line.{Line}
 use Rattle.rm_wal.specs.Tails.{end_of}
 use Rattle.rm_engine.specs.declared.room.TheConstants.{OWED}
 use Rattle.rm_outside.specs.Moments.{started, weaker}

@@ -1,0 +1,9 @@
+pub mod Readings
+pub mod Turns
+pub mod WrongTurns
+pub mod GrammarExamples
+pub mod TextLines
+pub mod TextExamples
+pub mod FirstLines
+pub mod FirstTurns
+pub mod Spellings

@@ -1,0 +1,6 @@
+pub mod Lines
+pub mod Grammar
+pub mod Texts
+pub mod Laws
+pub mod Reading
+pub mod Refusals

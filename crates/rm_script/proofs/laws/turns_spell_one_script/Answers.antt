@@ -1,5 +1,0 @@
-use Rattle.rm_script.proofs.Turns.{turns_readings_are_one}
-use Rattle.rm_script.proofs.laws.turns_spell_one_script.Goals as goal
-
-pub returns : goal.returns
-returns c = turns_readings_are_one
