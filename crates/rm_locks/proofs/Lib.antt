@@ -1,0 +1,4 @@
+pub mod Order
+pub mod Granted
+pub mod Searches
+pub mod Blockers

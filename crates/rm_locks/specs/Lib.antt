@@ -1,0 +1,2 @@
+pub mod LockTable
+pub mod Lists
