@@ -43,10 +43,9 @@ use Rattle.rm_core.specs.State.{alters, sets, settles, rolls, prepares, compensa
 use Rattle.rm_core.specs.Turns.{Turn, skip, unname, refuse, begin, scan, scan_last, latch, try, try_last, insert, lock, lock_alone, wait, die, fetch, miss}
 use Rattle.rm_core.specs.Turns.{lack, alter, settled, settle, commit, force, finish, abort, prepared, prepare, compensate, end, save, no_target, target, back}
 use Rattle.rm_core.proofs.Closing.{Closes}
-use Rattle.rm_core.proofs.Comings.{released_any}
+use Rattle.rm_core.proofs.Grants.{alone_has, released_any}
 use Rattle.rm_core.proofs.Grants.{joined_any, joined_more}
 use Rattle.rm_core.proofs.Moves.{Moved, moved-set}
-use Rattle.rm_core.proofs.Quiet.{alone_has}
 use Rattle.rm_core.proofs.Savepoints.{until, until_less, until_all, MadeAt, Saved, saved_as, saved_dropped, saved_had, Found, found}
 use Rattle.rm_core.proofs.Sizes.{next_above}
 

@@ -1,16 +1,14 @@
 -- An operation that is refused for want of room in the log is closed: what is known stays.
-use Rattle.std.proofs.Common.{◌≡◌, ℕ, ◌<◌, List, length, refl, sym, ap, subst, ◌∙◌, arith, set}
-use Rattle.std.proofs.lemmas.List.{set-get_or}
+use Rattle.std.proofs.Common.{◌≡◌, ℕ, ◌<◌, length, sym, ap, subst, ◌∙◌}
 use Rattle.rm_types.specs.declared.formats.Format.{Format}
-use Rattle.rm_core.specs.Effects.{after, staged}
+use Rattle.rm_core.specs.Effects.{after, goes_to, staged, with_effect}
 use Rattle.rm_core.specs.Kept.{Kept}
 use Rattle.rm_core.specs.May.{May}
 use Rattle.rm_core.specs.Moves.{Setting, closed, Lacks, IsRefused}
-use Rattle.rm_core.specs.Room.{HasRoom}
-use Rattle.rm_core.specs.State.{Stage, idle, tries, sets, Seat, State, seat_at, empty_seat}
+use Rattle.rm_core.specs.State.{Stage, idle, tries, sets, State, seat_at}
 use Rattle.rm_core.specs.Turns.{Turn, begin, insert, alter}
-use Rattle.rm_core.proofs.Space.{quiet_room}
-use Rattle.rm_core.proofs.Steps.{goes}
+use Rattle.rm_core.proofs.Keeping.{Known, closes}
+use Rattle.rm_core.proofs.Moves.{same_state}
 
 -- the stages at which a turn may be refused
 abbrev pub Closes : Stage → Type 0
@@ -29,44 +27,12 @@ closes_at format pages limit end s k other kept may lacks = absurd lacks
 pub refused_closes : (m : Setting) (s : State) (k end : ℕ) → Kept m.format s → IsRefused m s k end → Closes (seat_at s.seats k).stage
 refused_closes m s k end kept is = closes_at m.format m.pages m.limit end s k is.turn kept is.may is.lacks
 
--- an idle session is closed already
-pub idle_is_closed : (s : State) (k : ℕ) → (seat_at s.seats k).stage ≡ idle → closed s k ≡ s
-idle_is_closed s k at =
-    let same : staged (seat_at s.seats k) idle ≡ seat_at s.seats k = ap (staged (seat_at s.seats k)) (sym at) in
-    ap (λ (l : List Seat). record s { seats = l }) (ap (set s.seats k) same ∙ set-get_or s.seats k empty_seat)
-
--- what holds of a session's closed operation
-pub record IsClosed (m : Setting) (s : State) (k : ℕ) : Type 0 where
-  pub kept : Kept m.format (closed s k)
-  pub room : HasRoom m.limit s → HasRoom m.limit (closed s k)
-
-closed_idle : (m : Setting) (s : State) (k : ℕ) → Kept m.format s → (seat_at s.seats k).stage ≡ idle → IsClosed m s k
-closed_idle m s k kept at = record {
-  kept = subst (Kept m.format) (sym (idle_is_closed s k at)) kept;
-  room = λ room. subst (HasRoom m.limit) (sym (idle_is_closed s k at)) room;
-}
-
-closed_busy : (m : Setting) (s : State) (k : ℕ) (stage : Stage) → Kept m.format s → k < length s.seats → (seat_at s.seats k).stage ≡ stage → (stage ≡ idle → ⊥) → Closes stage
-    → IsClosed m s k
-closed_busy m s k idle kept among at busy closes = absurd (busy refl)
-closed_busy m s k (tries row page) kept among at busy closes =
-    let some : (seat_at s.seats k).txn ≡ 0 → ⊥ = λ none. busy (sym at ∙ kept.bare k none) in
-    record {
-      kept = goes m.format s k (staged (seat_at s.seats k) idle) (tries row page) (record { kept = kept; among = among; some = some }) refl at tt tt tt;
-      room = λ room. quiet_room m.format m.limit s (closed s k) k (tries row page) (staged (seat_at s.seats k) idle)
-          (record { kept = kept; room = room; among = among; some = some }) at refl refl refl (λ b. omega arith);
-    }
-closed_busy m s k (sets rid slot) kept among at busy closes =
-    let some : (seat_at s.seats k).txn ≡ 0 → ⊥ = λ none. busy (sym at ∙ kept.bare k none) in
-    record {
-      kept = goes m.format s k (staged (seat_at s.seats k) idle) (sets rid slot) (record { kept = kept; among = among; some = some }) refl at tt tt tt;
-      room = λ room. quiet_room m.format m.limit s (closed s k) k (sets rid slot) (staged (seat_at s.seats k) idle)
-          (record { kept = kept; room = room; among = among; some = some }) at refl refl refl (λ b. omega arith);
-    }
-closed_busy m s k other kept among at busy closes = absurd closes
-
-pub is_closed : (m : Setting) (s : State) (k : ℕ) (stage : Stage) → Kept m.format s → k < length s.seats → (seat_at s.seats k).stage ≡ stage → Closes stage → IsClosed m s k
-is_closed m s k idle kept among at closes = closed_idle m s k kept at
-is_closed m s k (tries row page) kept among at closes = closed_busy m s k (tries row page) kept among at (λ same. cc) closes
-is_closed m s k (sets rid slot) kept among at closes = closed_busy m s k (sets rid slot) kept among at (λ same. cc) closes
-is_closed m s k other kept among at closes = absurd closes
+pub is_closed : (m : Setting) (s : State) (k : ℕ) (stage : Stage) → Known m.format m.limit s → k < length s.seats → (seat_at s.seats k).stage ≡ stage → Closes stage
+    → Known m.format m.limit (closed s k)
+is_closed m s k idle known among at closing =
+    subst (Known m.format m.limit) (sym (ap (λ (st : Stage). with_effect s k (goes_to s (staged (seat_at s.seats k) st))) (sym at) ∙ same_state s k)) known
+is_closed m s k (tries row page) known among at closing =
+    closes m.format m.limit s k known among (tries row page) (λ none. let same : tries row page ≡ idle = sym at ∙ known.kept.bare k none in absurd cc) at tt
+is_closed m s k (sets rid slot) known among at closing =
+    closes m.format m.limit s k known among (sets rid slot) (λ none. let same : sets rid slot ≡ idle = sym at ∙ known.kept.bare k none in absurd cc) at tt
+is_closed m s k other known among at closing = absurd closing

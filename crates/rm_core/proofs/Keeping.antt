@@ -1,91 +1,201 @@
--- Every turn keeps what holds.
-use Rattle.std.proofs.Common.{◌≡◌, inl, ℕ, ◌+◌, ◌<◌, Bool, true, false, List, [], ◌∷◌, length, set, refl, sym, ap, subst, ◌∙◌}
+-- Every turn keeps what holds, and leaves the log the room that is kept.
+use Rattle.std.proofs.Common.{◌≡◌, ℕ, ◌+◌, ◌<◌, ◌≤◌, true, false, List, ◌∷◌, length, set, refl, sym, ap, subst, ◌∙◌, arith, Option, Some, None}
+use Rattle.std.proofs.lemmas.Bool.{ne_eqb}
+use Rattle.std.proofs.lemmas.List.{length-set}
 use Rattle.rm_types.specs.declared.formats.Format.{Format}
-use Rattle.rm_history.specs.Acts.{Finish, ends, newest_lsn}
-use Rattle.rm_history.specs.Pending.{pending_of}
 use Rattle.rm_types.specs.declared.slots.Slot.TheVariants.{Row}
-use Rattle.rm_core.specs.Effects.{save_of, after, staged, scanned}
-use Rattle.rm_core.specs.Kept.{IsOver, Seated, Holds, Kept}
-use Rattle.rm_core.specs.Locks.{released, Latches}
-use Rattle.rm_core.specs.May.{IsSeated, May, Step}
-use Rattle.rm_core.specs.Outcomes.{Outcome, aborted, died}
-use Rattle.rm_core.specs.Searching.{Scans}
-use Rattle.rm_core.specs.State.{seeks, wants, tries, fetches, sets, undoes_all, returns, dropped, upto, Stage, idle, finishes, rolls, Seat, State, seat_at, empty_seat}
+use Rattle.rm_model.specs.Sums.{sum_below}
+use Rattle.rm_history.specs.Acts.{Act, Change, History, Undo, Entry, Finish, undoes, enters, commits}
+use Rattle.rm_history.specs.Pending.{pending_of}
+use Rattle.rm_history.specs.Undoing.{entry_for, undo_for}
+use Rattle.rm_history.proofs.Chains.{last_is_of}
+use Rattle.rm_model.proofs.Sums.{sum_below-one}
+use Rattle.rm_history.proofs.NeedSums.{pending_of-undo}
+use Rattle.rm_history.proofs.PendingSteps.{pending-undo_other, pending-commit_other, pending-end_other}
+use Rattle.rm_core.specs.Effects.{Effect, save_of, entry_now, latched, effect, after, goes_to, logging, with_effect}
+use Rattle.rm_core.specs.Kept.{Locked, Kept}
+use Rattle.rm_core.specs.May.{Wants, IsSeated, May, Step}
+use Rattle.rm_core.specs.Moves.{closed}
+use Rattle.rm_core.specs.Outcomes.{aborted, died}
+use Rattle.rm_core.specs.Room.{bytes_for, claims_at, claim_of, owed, claims, HasRoomFor, HasRoom}
+use Rattle.rm_core.specs.Sizes.{end_of}
+use Rattle.rm_core.specs.State.{Savepoint, undoes_all, returns, dropped, upto, Stage, idle, seeks, wants, tries, reads, fetches, alters, sets, settles, forces, finishes}
+use Rattle.rm_core.specs.State.{rolls, prepares, compensates, Seat, State, seat_at}
 use Rattle.rm_core.specs.Turns.{Turn, skip, unname, refuse, begin, scan, scan_last, latch, try, try_last, insert, lock, lock_alone, wait, die, fetch, miss, lack, alter}
 use Rattle.rm_core.specs.Turns.{settled, settle, commit, force, finish, abort, prepared, prepare, compensate, end, save, no_target, target, back}
-use Rattle.rm_core.proofs.Comings.{begun_holds, freed_holds}
-use Rattle.rm_core.proofs.Logging.{insert_keeps, alter_keeps, settle_keeps, prepare_keeps, compensate_keeps, commit_keeps, end_keeps}
-use Rattle.rm_core.proofs.Moves.{moved-set, same_state}
-use Rattle.rm_core.proofs.Sizes.{next_above}
-use Rattle.rm_core.proofs.Steps.{Turns, LeftAt, goes, scans_plain, lock_keeps, lock_alone_keeps, force_keeps, settled_keeps, prepared_keeps, latch_keeps}
+use Rattle.rm_core.proofs.Comings.{begin_keeps, finish_keeps, end_keeps}
+use Rattle.rm_core.proofs.Logging.{insert_keeps, alter_keeps, settle_keeps, prepare_keeps, compensate_keeps, commit_keeps}
+use Rattle.rm_core.proofs.Moves.{Moved, moved-set, same_state}
+use Rattle.rm_core.proofs.Quiet.{Turns, IsPlain, plain, IsFree, free, left_by, goes}
+use Rattle.rm_core.proofs.Sizes.{entry_size, commit_size, end_size, undo_size, next_within, next_after}
+use Rattle.rm_core.proofs.Space.{all_owed, claim-other}
+use Rattle.rm_core.proofs.Steps.{scans_plain, lock_keeps, lock_alone_keeps, force_keeps, settled_keeps, prepared_keeps, latch_keeps}
 
--- a finished transaction's session lets it go
-finish_keeps : (format : Format) (s : State) (k : ℕ) → Turns format s k → (seat_at s.seats k).stage ≡ finishes
-    → Holds format s.history (released s.grants (seat_at s.seats k).txn) s.next (seat_at (set s.seats k empty_seat))
-finish_keeps format s k has at =
-    let known : Seated format s.history s.next (seat_at s.seats k) = has.kept.seated k has.some in
-    freed_holds format s.history s.grants s.next (seat_at s.seats) (seat_at (set s.seats k empty_seat)) k empty_seat has.kept has.some
-    (known.over (subst (λ (stage : Stage). IsOver stage) (sym at) tt)) (λ page h. subst (λ (stage : Stage). Latches stage page) at h) refl refl (moved-set s.seats k empty_seat has.among)
+-- what is known of a state: all that is kept, and that it has room
+pub record Known (format : Format) (limit : ℕ) (s : State) : Type 0 where
+  pub kept : Kept format s
+  pub room : HasRoom limit s
 
--- at once where its end is logged
-end_frees : (format : Format) (s : State) (k lsn : ℕ) (outcome : Outcome) → Turns format s k → (seat_at s.seats k).stage ≡ rolls (undoes_all outcome) → pending_of s.history (seat_at s.seats k).txn ≡ [] → newest_lsn s.history < lsn
-    → Holds format (ends (record { lsn = lsn; txn = (seat_at s.seats k).txn }) ∷ s.history) (released s.grants (seat_at s.seats k).txn) s.next (seat_at (set s.seats k empty_seat))
-end_frees format s k lsn outcome has at none above =
-    let txn : ℕ = (seat_at s.seats k).txn in
-    let f : Finish = record { lsn = lsn; txn = txn } in
-    let seat : Seat = staged (seat_at s.seats k) finishes in
-    let mid : ℕ → Seat = seat_at (set s.seats k seat) in
-    let held : Holds format (ends f ∷ s.history) s.grants s.next mid = end_keeps format s k lsn outcome has at none above in
-    let here : mid k ≡ seat = (moved-set s.seats k seat has.among).here in
-    let mine : (mid k).txn ≡ txn = ap (λ (one : Seat). one.txn) here in
-    subst (λ (t : ℕ). Holds format (ends f ∷ s.history) (released s.grants t) s.next (seat_at (set s.seats k empty_seat))) mine
-    (freed_holds format (ends f ∷ s.history) s.grants s.next mid (seat_at (set s.seats k empty_seat)) k empty_seat held (λ zero. has.some (sym mine ∙ zero))
-    (inl (sym mine)) (λ page h. subst (λ (one : Seat). Latches one.stage page) here h) refl refl
-    (record {
-      here = (moved-set s.seats k empty_seat has.among).here;
-      other = λ j differs. (moved-set s.seats k empty_seat has.among).other j differs ∙ sym ((moved-set s.seats k seat has.among).other j differs);
-    }))
+module _ (format : Format) (limit : ℕ) (s : State) (k : ℕ) (known : Known format limit s) (among : k < length s.seats) where
+  abbrev seat : Seat
+  seat = seat_at s.seats k
 
-scan_goes : (format : Format) (s : State) (k : ℕ) (row : List ℕ) (from to : ℕ) (found : Bool) → Turns format s k → Scans (seat_at s.seats k).stage row from
-    → LeftAt format s k (staged (seat_at s.seats k) (scanned row to found))
-scan_goes format s k row from to true has at = goes format s k (staged (seat_at s.seats k) (wants row to)) (seat_at s.seats k).stage has refl refl (scans_plain (seat_at s.seats k).stage row from at) tt tt
-scan_goes format s k row from to false has at = goes format s k (staged (seat_at s.seats k) (seeks row to)) (seat_at s.seats k).stage has refl refl (scans_plain (seat_at s.seats k).stage row from at) tt tt
+  abbrev bytes : ℕ
+  bytes = bytes_for (pending_of s.history seat.txn)
 
-turn_keeps : (format : Format) (pages : ℕ) (s : State) (k : ℕ) (turn : Turn) → Kept format s → k < length s.seats → IsSeated (seat_at s.seats k) turn → May format pages s k (seat_at s.seats k) turn
-    → Kept format (after format s k (seat_at s.seats k) turn)
-turn_keeps format pages s k (skip op) kept among seated may = subst (Kept format) (sym (same_state s k)) kept
-turn_keeps format pages s k unname kept among seated may = subst (Kept format) (sym (same_state s k)) kept
-turn_keeps format pages s k (refuse op rid) kept among seated may = subst (Kept format) (sym (same_state s k)) kept
-turn_keeps format pages s k (begin txn) kept among seated may =
-    begun_holds format s.history s.grants s.next (seat_at s.seats) (seat_at (set s.seats k (record { txn = s.next; saves = []; stage = idle }))) k kept may.0 (moved-set s.seats k (record { txn = s.next; saves = []; stage = idle }) among)
-turn_keeps format pages s k (scan row from to found) kept among seated may = scan_goes format s k row from to found (record { kept = kept; among = among; some = seated }) may.at
-turn_keeps format pages s k (scan_last row from) kept among seated may = goes format s k (staged (seat_at s.seats k) idle) (seat_at s.seats k).stage (record { kept = kept; among = among; some = seated }) refl refl (scans_plain (seat_at s.seats k).stage row from may.at) tt tt
-turn_keeps format pages s k (latch page) kept among seated may = latch_keeps format s k page (record { kept = kept; among = among; some = seated }) may
-turn_keeps format pages s k (try row page slot) kept among seated may = goes format s k (staged (seat_at s.seats k) (seeks row (page + 1))) (tries row page) (record { kept = kept; among = among; some = seated }) refl may.0.at tt tt tt
-turn_keeps format pages s k (try_last row page slot) kept among seated may = goes format s k (staged (seat_at s.seats k) idle) (tries row page) (record { kept = kept; among = among; some = seated }) refl may.0.at tt tt tt
-turn_keeps format pages s k (insert row rid lsn) kept among seated may = insert_keeps format s k row rid lsn (record { kept = kept; among = among; some = seated }) may
-turn_keeps format pages s k (lock rid) kept among seated may = lock_keeps format s k rid (record { kept = kept; among = among; some = seated }) may.at may.free
-turn_keeps format pages s k (lock_alone rid slot) kept among seated may = lock_alone_keeps format s k rid slot (record { kept = kept; among = among; some = seated }) may.at may.free
-turn_keeps format pages s k (wait op rid alone holder) kept among seated may = subst (Kept format) (sym (same_state s k)) kept
-turn_keeps format pages s k (die op rid alone holder) kept among seated may = goes format s k (staged (seat_at s.seats k) (rolls (undoes_all (died op holder)))) idle (record { kept = kept; among = among; some = seated }) refl may.0.at tt tt tt
-turn_keeps format pages s k (fetch rid slot) kept among seated may = goes format s k (staged (seat_at s.seats k) idle) (fetches rid) (record { kept = kept; among = among; some = seated }) refl may.0 tt tt tt
-turn_keeps format pages s k (miss rid slot) kept among seated may = goes format s k (staged (seat_at s.seats k) idle) (sets rid slot) (record { kept = kept; among = among; some = seated }) refl may.0 tt tt tt
-turn_keeps format pages s k (lack rid row room) kept among seated may = goes format s k (staged (seat_at s.seats k) idle) (sets rid (Row row)) (record { kept = kept; among = among; some = seated }) refl may.0 tt tt tt
-turn_keeps format pages s k (alter rid slot lsn) kept among seated may = alter_keeps format s k rid slot lsn (record { kept = kept; among = among; some = seated }) may
-turn_keeps format pages s k (settled outcome page) kept among seated may = settled_keeps format s k outcome page (record { kept = kept; among = among; some = seated }) may.0 may.1
-turn_keeps format pages s k (settle outcome page lsn) kept among seated may = settle_keeps format s k outcome page lsn (record { kept = kept; among = among; some = seated }) may
-turn_keeps format pages s k (commit lsn) kept among seated may = commit_keeps format s k lsn (record { kept = kept; among = among; some = seated }) may.0 (next_above s.history lsn may.1)
-turn_keeps format pages s k (force durable) kept among seated may = force_keeps format s k (record { kept = kept; among = among; some = seated }) may.0
-turn_keeps format pages s k finish kept among seated may = finish_keeps format s k (record { kept = kept; among = among; some = seated }) may
-turn_keeps format pages s k abort kept among seated may = goes format s k (staged (seat_at s.seats k) (rolls (undoes_all aborted))) idle (record { kept = kept; among = among; some = seated }) refl may tt tt tt
-turn_keeps format pages s k (prepared aim last) kept among seated may = prepared_keeps format s k aim last may.1.0 (record { kept = kept; among = among; some = seated }) may.0 may.1.1 may.2
-turn_keeps format pages s k (prepare aim last lsn) kept among seated may = prepare_keeps format s k aim last lsn (record { kept = kept; among = among; some = seated }) may
-turn_keeps format pages s k (compensate aim last lsn) kept among seated may = compensate_keeps format s k aim last may.1.0 lsn (record { kept = kept; among = among; some = seated }) may.0 may.1.1 (next_above s.history lsn may.2)
-turn_keeps format pages s k (end outcome lsn) kept among seated may = end_frees format s k lsn outcome (record { kept = kept; among = among; some = seated }) may.0 may.1 (next_above s.history lsn may.2)
-turn_keeps format pages s k (save number) kept among seated may = goes format s k (record (seat_at s.seats k) { stage = idle; saves = save_of s (seat_at s.seats k) number ∷ dropped (seat_at s.seats k).saves number }) idle (record { kept = kept; among = among; some = seated }) refl may tt tt tt
-turn_keeps format pages s k (no_target number) kept among seated may = goes format s k (staged (seat_at s.seats k) idle) idle (record { kept = kept; among = among; some = seated }) refl may.0 tt tt tt
-turn_keeps format pages s k (target number lsn) kept among seated may = goes format s k (record (seat_at s.seats k) { stage = rolls (returns number lsn); saves = upto (seat_at s.seats k).saves number }) idle (record { kept = kept; among = among; some = seated }) refl may.0 tt tt tt
-turn_keeps format pages s k (back number lsn) kept among seated may = goes format s k (staged (seat_at s.seats k) idle) (rolls (returns number lsn)) (record { kept = kept; among = among; some = seated }) refl may.0 tt tt tt
+  has : (seat.txn ≡ 0 → ⊥) → Turns format s k
+  has some = record { kept = known.kept; among = among; some = some }
 
-pub turn_kept : (format : Format) (pages : ℕ) (old new : State) (k : ℕ) (turn : Turn) → Kept format old → Step format pages old k turn new → Kept format new
-turn_kept format pages old new k turn kept step = subst (Kept format) (sym step.new_is) (turn_keeps format pages old k turn kept step.among step.seated step.may)
+  -- ---- room
+
+  -- where the log grows by no more than the session's claim falls, there is room as before
+  room : (e : Effect) (was : Stage) → (seat.txn ≡ 0 → ⊥) → seat.stage ≡ was
+      → ((other : ℕ) → (other ≡ seat.txn → ⊥) → pending_of (logging e.logged s.history) other ≡ pending_of s.history other)
+      → end_of (logging e.logged s.history) + claim_of (logging e.logged s.history) e.seat ≤ end_of s.history + claims_at was bytes
+      → HasRoom limit (with_effect s k e)
+  room e was some at pending less =
+      let new : History = logging e.logged s.history in
+      let moved : Moved (seat_at s.seats) (seat_at (set s.seats k e.seat)) k e.seat = moved-set s.seats k e.seat among in
+      let f : ℕ → ℕ = λ j. claim_of s.history (seat_at s.seats j) in
+      let g : ℕ → ℕ = λ j. claim_of new (seat_at (set s.seats k e.seat) j) in
+      let same : (j : ℕ) → (j ≡ k → ⊥) → g j ≡ f j = λ j differs. ap (claim_of new) (moved.other j differs)
+      ∙ claim-other s.history new seat.txn (seat_at s.seats j) pending (λ one is. differs (known.kept.single j k some is)) in
+      let mine : g k ≡ claim_of new e.seat = ap (claim_of new) moved.here in
+      let was_mine : f k ≡ claims_at was bytes = rw (ne_eqb seat.txn 0 some) (ap (λ (st : Stage). claims_at st bytes) at) in
+      let sums : sum_below g (length s.seats) + f k ≡ sum_below f (length s.seats) + g k = sum_below-one f g k (length s.seats) same among in
+      let all : claims (with_effect s k e) ≡ sum_below g (length s.seats) = ap (sum_below g) (length-set s.seats k e.seat) in
+      omega (arith, known.room, all, sums, mine, was_mine, less)
+
+  -- where its transaction stays
+  room_at : (logged : Option Act) (saves : List (Savepoint ℕ)) (stage was : Stage) → (seat.txn ≡ 0 → ⊥) → seat.stage ≡ was
+      → ((other : ℕ) → (other ≡ seat.txn → ⊥) → pending_of (logging logged s.history) other ≡ pending_of s.history other)
+      → end_of (logging logged s.history) + claims_at stage (bytes_for (pending_of (logging logged s.history) seat.txn)) ≤ end_of s.history + claims_at was bytes
+      → HasRoom limit (with_effect s k (left_by s k logged s.grants saves stage))
+  room_at logged saves stage was some at pending less =
+      let e : Effect = left_by s k logged s.grants saves stage in
+      let new : History = logging logged s.history in
+      let claim : claim_of new e.seat ≡ claims_at stage (bytes_for (pending_of new seat.txn)) = rw (ne_eqb seat.txn 0 some) refl in
+      room e was some at pending (omega (arith, claim, less))
+
+  -- where nothing is logged
+  room_left : (saves : List (Savepoint ℕ)) (stage was : Stage) → (seat.txn ≡ 0 → ⊥) → seat.stage ≡ was → claims_at stage bytes ≤ claims_at was bytes
+      → HasRoom limit (with_effect s k (left_by s k None s.grants saves stage))
+  room_left saves stage was some at less = room_at None saves stage was some at (λ other differs. refl) (omega (arith, less))
+
+  -- a latch leaves the claim
+  latch_claims : (stage : Stage) (page : ℕ) → Wants s seat stage page → claims_at (latched stage page) bytes ≡ claims_at stage bytes
+  latch_claims (wants row on) page is = refl
+  latch_claims (reads rid) page is = refl
+  latch_claims (alters rid slot) page is = refl
+  latch_claims (rolls aim) page is = refl
+  latch_claims other page is = absurd is
+
+  -- where the turn was asked for it
+  room_asked : (new : State) → end_of new.history + 32 + owed new ≤ limit → HasRoom limit new
+  room_asked new asks = omega (arith, asks, all_owed new)
+
+  -- ---- turns
+
+  -- nothing changes
+  still : Known format limit (with_effect s k (goes_to s seat))
+  still = subst (Known format limit) (sym (same_state s k)) known
+
+  -- from a plain stage to a free one
+  goes_on : (saves : List (Savepoint ℕ)) (stage was : Stage) → (seat.txn ≡ 0 → ⊥) → seat.stage ≡ was → IsPlain was → IsFree stage → Locked s.grants seat.txn stage
+      → Known format limit (with_effect s k (left_by s k None s.grants saves stage))
+  goes_on saves stage was some at is_plain is_free on =
+      let before = (plain was is_plain).2 bytes in
+      let now = (plain stage (free stage is_free).plain).2 bytes in
+      record { kept = goes format s k (has some) saves stage was at is_plain is_free on; room = room_left saves stage was some at (omega (arith, before, now)) }
+
+  -- the operation is closed
+  pub closes : (was : Stage) → (seat.txn ≡ 0 → ⊥) → seat.stage ≡ was → IsPlain was → Known format limit (closed s k)
+  closes was some at is_plain = goes_on seat.saves idle was some at is_plain tt tt
+
+  turn_keeps : (pages : ℕ) (turn : Turn) → IsSeated seat turn → May format pages s k seat turn → HasRoomFor limit s turn (after format s k seat turn)
+      → Known format limit (after format s k seat turn)
+  turn_keeps pages (skip op) some may asks = still
+  turn_keeps pages unname some may asks = still
+  turn_keeps pages (refuse op rid) some may asks = still
+  turn_keeps pages (begin txn) some may asks = record {
+    kept = begin_keeps format s k known.kept among may.0;
+    room = omega (arith, asks.2, next_after s.history asks.0 asks.1, all_owed (after format s k seat (begin txn)));
+  }
+  turn_keeps pages (scan row from to true) some may asks = goes_on seat.saves (wants row to) seat.stage some refl (scans_plain seat.stage row from may.at) tt tt
+  turn_keeps pages (scan row from to false) some may asks = goes_on seat.saves (seeks row to) seat.stage some refl (scans_plain seat.stage row from may.at) tt tt
+  turn_keeps pages (scan_last row from) some may asks = closes seat.stage some refl (scans_plain seat.stage row from may.at)
+  turn_keeps pages (latch page) some may asks =
+      let claims = latch_claims seat.stage page may.wants_it in
+      record { kept = latch_keeps format s k (has some) page may; room = room_left seat.saves (latched seat.stage page) seat.stage some refl (omega (arith, claims)) }
+  turn_keeps pages (try row page slot) some may asks = goes_on seat.saves (seeks row (page + 1)) (tries row page) some may.0.at tt tt tt
+  turn_keeps pages (try_last row page slot) some may asks = closes (tries row page) some may.0.at tt
+  turn_keeps pages (insert row rid lsn) some may asks =
+      record { kept = insert_keeps format s k (has some) row rid lsn may; room = room_asked (after format s k seat (insert row rid lsn)) asks }
+  turn_keeps pages (lock rid) some may asks =
+      record { kept = lock_keeps format s k (has some) rid may.at may.free; room = room_left seat.saves (reads rid) idle some may.at (omega arith) }
+  turn_keeps pages (lock_alone rid slot) some may asks =
+      record { kept = lock_alone_keeps format s k (has some) rid slot may.at may.free; room = room_left seat.saves (alters rid slot) idle some may.at (omega arith) }
+  turn_keeps pages (wait op rid alone holder) some may asks = still
+  turn_keeps pages (die op rid alone holder) some may asks = goes_on seat.saves (rolls (undoes_all (died op holder))) idle some may.0.at tt tt tt
+  turn_keeps pages (fetch rid slot) some may asks = closes (fetches rid) some may.0 tt
+  turn_keeps pages (miss rid slot) some may asks = closes (sets rid slot) some may.0 tt
+  turn_keeps pages (lack rid row rest) some may asks = closes (sets rid (Row row)) some may.0 tt
+  turn_keeps pages (alter rid slot lsn) some may asks =
+      record { kept = alter_keeps format s k (has some) rid slot lsn may; room = room_asked (after format s k seat (alter rid slot lsn)) asks }
+  turn_keeps pages (settled outcome page) some may asks =
+      record { kept = settled_keeps format s k (has some) outcome page may.0 may.1; room = room_left seat.saves idle (settles outcome page) some may.0 (omega arith) }
+  turn_keeps pages (settle outcome page lsn) some may asks =
+      let e : Entry = entry_now format s.history seat.txn page lsn in record {
+        kept = settle_keeps format s k (has some) outcome page lsn may;
+        room = room_at (Some (enters e)) seat.saves idle (settles outcome page) some may.at (λ other differs. refl)
+            (omega (arith, next_within s.history lsn may.placed, entry_size e));
+      }
+  turn_keeps pages (commit lsn) some may asks =
+      let f : Finish = record { lsn = lsn; txn = seat.txn } in record {
+        kept = commit_keeps format s k (has some) lsn may.0 may.1;
+        room = room_at (Some (commits f)) seat.saves forces idle some may.0 (λ other differs. pending-commit_other f s.history other (λ same. differs (sym same)))
+            (omega (arith, next_within s.history lsn may.1, commit_size f));
+      }
+  turn_keeps pages (force durable) some may asks =
+      record { kept = force_keeps format s k (has some) may.0; room = room_left seat.saves finishes forces some may.0 (omega arith) }
+  turn_keeps pages finish some may asks =
+      record { kept = finish_keeps format s k (has some) may; room = room (effect format s seat finish) finishes some may (λ other differs. refl) (omega arith) }
+  turn_keeps pages abort some may asks = goes_on seat.saves (rolls (undoes_all aborted)) idle some may tt tt tt
+  turn_keeps pages (prepared aim last) some may asks = record {
+    kept = prepared_keeps format s k (has some) aim last may.1.0 may.0 may.1.1 may.2;
+    room = room_left seat.saves (compensates aim last.rid.page) (prepares aim last.rid.page) some may.0 (omega arith);
+  }
+  turn_keeps pages (prepare aim last lsn) some may asks =
+      let e : Entry = entry_for format lsn s.history last in record {
+        kept = prepare_keeps format s k (has some) aim last lsn may;
+        room = room_at (Some (enters e)) seat.saves (compensates aim last.rid.page) (prepares aim last.rid.page) some may.at (λ other differs. refl)
+            (omega (arith, next_within s.history lsn may.placed, entry_size e));
+      }
+  turn_keeps pages (compensate aim last lsn) some may asks =
+      let rest : List Change = may.1.0 in
+      let next : pending_of s.history seat.txn ≡ last ∷ rest = may.1.1 in
+      let u : Undo = undo_for lsn last in
+      let mine : last.txn ≡ seat.txn = last_is_of s.history seat.txn last rest next in
+      let left : pending_of (undoes u ∷ s.history) seat.txn ≡ rest = subst (λ (t : ℕ). pending_of (undoes u ∷ s.history) t ≡ rest) mine
+      (pending_of-undo s.history u last rest (ap (pending_of s.history) mine ∙ next)) in record {
+        kept = compensate_keeps format s k (has some) aim last rest lsn may.0 next may.2;
+        room = room_at (Some (undoes u)) seat.saves (rolls aim) (compensates aim last.rid.page) some may.0
+            (λ other differs. pending-undo_other u s.history other (λ same. differs (sym same ∙ mine)))
+            (omega (arith, next_within s.history lsn may.2, undo_size u, ap bytes_for left, ap bytes_for next));
+      }
+  turn_keeps pages (end outcome lsn) some may asks =
+      let f : Finish = record { lsn = lsn; txn = seat.txn } in record {
+        kept = end_keeps format s k (has some) lsn outcome may.0 may.1 may.2;
+        room = room (effect format s seat (end outcome lsn)) (rolls (undoes_all outcome)) some may.0
+            (λ other differs. pending-end_other f s.history other (λ same. differs (sym same))) (omega (arith, next_within s.history lsn may.2, end_size f));
+      }
+  turn_keeps pages (save number) some may asks = goes_on (save_of s seat number ∷ dropped seat.saves number) idle idle some may tt tt tt
+  turn_keeps pages (no_target number) some may asks = closes idle some may.0 tt
+  turn_keeps pages (target number lsn) some may asks = goes_on (upto seat.saves number) (rolls (returns number lsn)) idle some may.0 tt tt tt
+  turn_keeps pages (back number lsn) some may asks = closes (rolls (returns number lsn)) some may.0 tt
+
+pub turn_known : (format : Format) (pages limit : ℕ) (old new : State) (k : ℕ) (turn : Turn) → Known format limit old → Step format pages old k turn new
+    → HasRoomFor limit old turn new → Known format limit new
+turn_known format pages limit old new k turn known step asks =
+    subst (Known format limit) (sym step.new_is)
+    (turn_keeps format limit old k known step.among pages turn step.seated step.may (subst (HasRoomFor limit old turn) step.new_is asks))

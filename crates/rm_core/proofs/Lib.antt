@@ -1,5 +1,4 @@
 pub mod Sizes
-pub mod Acts
 pub mod Moves
 pub mod Grants
 pub mod Quiet

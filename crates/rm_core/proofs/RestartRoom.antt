@@ -29,7 +29,7 @@ use Rattle.rm_core.specs.Runs.{Opening, Machine, IsRun, moved}
 use Rattle.rm_core.specs.Sizes.{size_of, end_of, IsNext}
 use Rattle.rm_core.specs.State.{Stage, idle, settles, forces, finishes, compensates, Seat, State, seat_at}
 use Rattle.rm_core.specs.Turns.{Turn, skip, unname, begin, insert, alter, settle, commit, finish, prepare, compensate, end}
-use Rattle.rm_core.proofs.Acts.{Elsewhere}
+use Rattle.rm_history.proofs.Elsewhere.{Elsewhere}
 use Rattle.rm_core.proofs.Along.{setting_of, seat_of, turned, Makes, run_in_order, kept_along, each_seat}
 use Rattle.rm_core.proofs.Moves.{moved-set}
 use Rattle.rm_core.proofs.Runs.{moves_run, run_known, run_kept}

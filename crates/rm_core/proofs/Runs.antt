@@ -1,46 +1,45 @@
 -- What holds at an opening and is kept by each move holds of each run.
-use Rattle.std.proofs.Common.{◌≡◌, inl, ℕ, zero, suc, ◌<◌, List, [], ◌∷◌, length, replicate, refl, sym, ap, subst, arith}
+use Rattle.std.proofs.Common.{◌≡◌, inl, ℕ, zero, suc, List, [], ◌∷◌, length, replicate, refl, sym, ap, subst, ◌∙◌, arith}
 use Rattle.rm_types.specs.declared.formats.Format.{Format}
 use Rattle.rm_model.specs.Sums.{sum_below}
 use Rattle.rm_history.specs.Acts.{Listing, History}
+use Rattle.rm_history.proofs.Finished.{change_has_record}
+use Rattle.rm_model.proofs.Sums.{sum_below-zero, sum_below-same}
 use Rattle.rm_history.proofs.Prefixes.{legal_is_in_order}
 use Rattle.rm_history.proofs.UndoTheorem.{fits_in_order, entries_follow}
 use Rattle.rm_core.specs.Events.{Event}
 use Rattle.rm_core.specs.Kept.{Locked, Seated, Kept}
 use Rattle.rm_core.specs.Laws.{MovesRun, RunsAreKept}
 use Rattle.rm_core.specs.Locks.{Latches}
-use Rattle.rm_core.specs.Moves.{Setting, Answer, again, log_full, spent, Answers, MayAppend, appended, Move, turns, answered, appends, append_refused, rests, Moves}
-use Rattle.rm_core.specs.Room.{HasRoom, claim_of}
+use Rattle.rm_core.specs.Moves.{Setting, again, log_full, spent, MayAppend, appended, Move, turns, answered, appends, append_refused, rests, Moves}
+use Rattle.rm_core.specs.Room.{claim_of}
 use Rattle.rm_core.specs.Runs.{Opening, IsOpening, opened, Machine, Runs, IsRun, started, moved}
 use Rattle.rm_core.specs.State.{Seat, State, seat_at, empty_seat}
-use Rattle.rm_core.proofs.Closing.{IsClosed, is_closed, refused_closes}
-use Rattle.rm_core.proofs.Comings.{change_has_record}
-use Rattle.rm_core.proofs.Keeping.{turn_kept}
+use Rattle.rm_core.proofs.Closing.{is_closed, refused_closes}
+use Rattle.rm_core.proofs.Keeping.{Known, turn_known}
 use Rattle.rm_core.proofs.Sizes.{next_above}
-use Rattle.rm_core.proofs.Space.{all_owed, turn_keeps_room}
+use Rattle.rm_core.proofs.Space.{all_owed}
 
 -- ---- induction
 
 pub moves_run : MovesRun
 moves_run m move new run moves = record { opening = run.opening; runs = (m.trace, m.state, run.runs, moves, refl) }
 
--- so many moves, from a property of an opened machine that each move keeps
-runs_along : (P : Machine → Type 0) → ((o : Opening) → IsOpening o → P (started o))
-    → ((m : Machine) (move : Move) (new : State) → IsRun m → P m → Moves m.opening.setting m.state move new → P (moved m move new))
-    → (o : Opening) (moves : List Move) (trace : List Event) (state : State) → IsOpening o → Runs o moves trace state
-    → P (record { opening = o; moves = moves; trace = trace; state = state })
-runs_along P base step o [] trace state is runs =
-    subst (λ (t : List Event). P (record { opening = o; moves = []; trace = t; state = state })) (sym runs.0)
-    (subst (λ (s : State). P (record { opening = o; moves = []; trace = []; state = s })) (sym runs.1) (base o is))
-runs_along P base step o (newest ∷ moves) trace state is runs =
-    let before : Machine = record { opening = o; moves = moves; trace = runs.0; state = runs.1 } in
-    subst (λ (t : List Event). P (record { opening = o; moves = newest ∷ moves; trace = t; state = state })) (sym runs.4)
-    (step before newest state (record { opening = is; runs = runs.2 }) (runs_along P base step o moves runs.0 runs.1 is runs.2) runs.3)
+-- a property of an opened machine that each move keeps holds of each run
+module _ (P : Machine → Type 0) (base : (o : Opening) → IsOpening o → P (started o))
+    (step : (m : Machine) (move : Move) (new : State) → IsRun m → P m → Moves m.opening.setting m.state move new → P (moved m move new)) where
+  after_moves : (o : Opening) (moves : List Move) (trace : List Event) (state : State) → IsOpening o → Runs o moves trace state
+      → P (record { opening = o; moves = moves; trace = trace; state = state })
+  after_moves o [] trace state is runs =
+      subst (λ (t : List Event). P (record { opening = o; moves = []; trace = t; state = state })) (sym runs.0)
+      (subst (λ (s : State). P (record { opening = o; moves = []; trace = []; state = s })) (sym runs.1) (base o is))
+  after_moves o (newest ∷ moves) trace state is runs =
+      let before : Machine = record { opening = o; moves = moves; trace = runs.0; state = runs.1 } in
+      subst (λ (t : List Event). P (record { opening = o; moves = newest ∷ moves; trace = t; state = state })) (sym runs.4)
+      (step before newest state (record { opening = is; runs = runs.2 }) (after_moves o moves runs.0 runs.1 is runs.2) runs.3)
 
-pub along : (P : Machine → Type 0) → ((o : Opening) → IsOpening o → P (started o))
-    → ((m : Machine) (move : Move) (new : State) → IsRun m → P m → Moves m.opening.setting m.state move new → P (moved m move new))
-    → (m : Machine) → IsRun m → P m
-along P base step m run = runs_along P base step m.opening m.moves m.trace m.state run.opening run.runs
+  pub along : (m : Machine) → IsRun m → P m
+  along m run = after_moves m.opening m.moves m.trace m.state run.opening run.runs
 
 -- ---- the opening
 
@@ -69,10 +68,9 @@ started_kept o is = record {
 }
 
 nothing_claimed : (history : History) (sessions n : ℕ) → sum_below (λ k. claim_of history (seat_at (replicate sessions empty_seat) k)) n ≡ 0
-nothing_claimed history sessions zero = refl
-nothing_claimed history sessions (suc n) =
-    let one : claim_of history (seat_at (replicate sessions empty_seat) n) ≡ 0 = ap (claim_of history) (seat_empty sessions n) in
-    omega (arith, one, nothing_claimed history sessions n)
+nothing_claimed history sessions n =
+    sum_below-same (λ k. 0) (λ k. claim_of history (seat_at (replicate sessions empty_seat) k)) n
+    (λ k among. ap (claim_of history) (seat_empty sessions k)) ∙ sum_below-zero n
 
 -- ---- moves
 
@@ -101,31 +99,19 @@ appends_kept format s l kept may = record {
   owing = kept.owing;
 }
 
--- what is known of a state: all that is kept, and that it has room
-pub record Known (m : Setting) (s : State) : Type 0 where
-  pub kept : Kept m.format s
-  pub room : HasRoom m.limit s
-
-answer_known : (m : Setting) (s new : State) (k : ℕ) (answer : Answer) → Known m s → k < length s.seats → Answers m s k answer new → Known m new
-answer_known m s new k (again by) known among is = subst (Known m) (sym is.1) known
-answer_known m s new k (log_full end) known among is =
-    let all : IsClosed m s k = is_closed m s k (seat_at s.seats k).stage known.kept among refl (refused_closes m s k end known.kept is.0) in
-    subst (Known m) (sym is.1) (record { kept = all.kept; room = all.room known.room })
-answer_known m s new k (spent last) known among is = subst (Known m) (sym is.2) known
-
-move_known : (m : Setting) (s new : State) (move : Move) → Known m s → Moves m s move new → Known m new
-move_known m s new (turns k turn) known moves = record {
-  kept = turn_kept m.format m.pages s new k turn known.kept moves.0;
-  room = turn_keeps_room m.format m.pages m.limit s new k turn known.kept known.room moves.0 moves.1;
-}
-move_known m s new (answered k answer) known moves = answer_known m s new k answer known moves.0 moves.1
+move_known : (m : Setting) (s new : State) (move : Move) → Known m.format m.limit s → Moves m s move new → Known m.format m.limit new
+move_known m s new (turns k turn) known moves = turn_known m.format m.pages m.limit s new k turn known moves.0 moves.1
+move_known m s new (answered k (again by)) known moves = subst (Known m.format m.limit) (sym moves.1.1) known
+move_known m s new (answered k (spent last)) known moves = subst (Known m.format m.limit) (sym moves.1.2) known
+move_known m s new (answered k (log_full end)) known moves = subst (Known m.format m.limit) (sym moves.1.1)
+    (is_closed m s k (seat_at s.seats k).stage known moves.0 refl (refused_closes m s k end known.kept moves.1.0))
 move_known m s new (appends l) known moves =
-    subst (Known m) (sym moves.2) (record { kept = appends_kept m.format s l known.kept moves.0; room = omega (arith, moves.1, all_owed s) })
-move_known m s new (append_refused end) known moves = subst (Known m) (sym moves.1) known
-move_known m s new (rests actor seen) known moves = subst (Known m) (sym moves.1) known
+    subst (Known m.format m.limit) (sym moves.2) (record { kept = appends_kept m.format s l known.kept moves.0; room = omega (arith, moves.1, all_owed s) })
+move_known m s new (append_refused end) known moves = subst (Known m.format m.limit) (sym moves.1) known
+move_known m s new (rests actor seen) known moves = subst (Known m.format m.limit) (sym moves.1) known
 
-pub run_known : (m : Machine) → IsRun m → Known m.opening.setting m.state
-run_known = along (λ (m : Machine). Known m.opening.setting m.state)
+pub run_known : (m : Machine) → IsRun m → Known m.opening.setting.format m.opening.setting.limit m.state
+run_known = along (λ (m : Machine). Known m.opening.setting.format m.opening.setting.limit m.state)
     (λ o is. record { kept = started_kept o is; room = omega (arith, is.room, nothing_claimed o.history o.sessions (length (replicate o.sessions empty_seat))) })
     (λ m move new run known moves. move_known m.opening.setting m.state new move known moves)
 

@@ -21,13 +21,9 @@ pub end_size : (f : Finish) → size_of (ends f) ≡ 5
 unfolding size_of
 end_size f = refl
 
-undo_size_at : (lsn txn undone next : ℕ) (rid : Rid) (back : Slot) → size_of (undoes (record { lsn = lsn; txn = txn; undone = undone; next = next; rid = rid; back = back })) ≤ 30 + row_length back
-unfolding size_of
-undo_size_at lsn txn undone next rid Vacant = omega arith
-undo_size_at lsn txn undone next rid (Row row) = omega arith
-
 pub undo_size : (u : Undo) → size_of (undoes u) ≤ 30 + row_length u.back
-undo_size u = undo_size_at u.lsn u.txn u.undone u.next u.rid u.back
+unfolding size_of
+undo_size u = elim u.back as (λ back. size_of (undoes (record u { back = back })) ≤ 30 + row_length back) [ Vacant ↦ omega arith | Row row ↦ omega arith ]
 
 change_size : (txn under : ℕ) (rid : Rid) (need : ℕ) (before after : Slot) → 0 < length (spelling (change_record txn under rid need before after))
 change_size txn under rid need Vacant Vacant = omega arith

@@ -36,7 +36,7 @@ use Rattle.rm_core.specs.State.{prepares, compensates, Seat, State, seat_at}
 use Rattle.rm_core.specs.Turns.{Turn, skip, unname, refuse, scan, scan_last, latch, try, try_last, insert, wait, fetch, alter, settled, settle, commit, force}
 use Rattle.rm_core.specs.Turns.{finish, prepared, prepare, compensate, end}
 use Rattle.rm_core.proofs.Along.{setting_of, seat_of, append_event, rest_event, kept_along, each_seat}
-use Rattle.rm_core.proofs.Acts.{Elsewhere, elsewhere-none, elsewhere-change, elsewhere-undo, elsewhere-enter, elsewhere-commit, elsewhere-end}
+use Rattle.rm_history.proofs.Elsewhere.{Elsewhere, elsewhere-none, elsewhere-change, elsewhere-undo, elsewhere-enter, elsewhere-commit, elsewhere-end}
 use Rattle.rm_core.proofs.Runs.{seat_empty, run_kept}
 use Rattle.rm_core.proofs.Sizes.{size_some}
 

@@ -17,7 +17,7 @@ use Rattle.rm_core.specs.Locks.{HasGrant, Blocks, Latches, Looks}
 use Rattle.rm_core.specs.May.{IsReading}
 use Rattle.rm_core.specs.Moves.{Bars}
 use Rattle.rm_core.specs.Searching.{IsHeld}
-use Rattle.rm_core.proofs.Quiet.{alone_has}
+use Rattle.rm_core.proofs.Grants.{alone_has}
 use Rattle.rm_core.specs.State.{Savepoint, HasNumber, Stage, tries, fetches, sets, settles, prepares, compensates, reads, Seat, Grant, State, seat_at, empty_seat}
 use Rattle.rm_play.specs.Choosing.{first_from, blocks_it, blocker, is_vacant, is_free, past_locks, slot_for, latches_it, looks_at, is_reading, bars_it, first_barring, has_number}
 
