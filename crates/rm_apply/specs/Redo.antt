@@ -43,7 +43,7 @@ CannotHave slots number (Row row) = CAPACITY < used (set_slot slots number (Row 
 abbrev pub IsUnfit : List Slot → LogRecord → Type 0
 IsUnfit slots what = IsSomeAnd (set_by what) (λ set. CannotHave slots set.0.slot set.1)
 
--- What redo of a record with this LSN did to the page with this number, by its answer. An older record is not looked at.
+-- What redo of a record with this LSN did to the page with this number, by its answer.
 abbrev pub Redoes : ℕ → PageValue → LogRecord → Lsn → Applied → PageValue → Type 0
 Redoes page old what lsn Changed new = (old.lsn.0 < lsn.0) × (IsUnfit old.slots what → ⊥)
     × (new ≡ record { lsn = lsn; slots = page_after (act_at lsn.0 what) page old.slots })

@@ -19,7 +19,7 @@ pub record IsLeastVacant (slots : List Slot) (start number : ℕ) : Type 0 where
   pub vacant : row_at slots number ≡ None
   pub least : (other : ℕ) → start ≤ other → other < number → IsSome (row_at slots other)
 
--- what a page keeps beside its slots: its used bytes, its least vacant slot, and memory for its directory in whole steps
+-- what a page keeps beside its slots: its used bytes, its least vacant slot, and memory for its directory
 pub record IsKept (slots : List Slot) (bytes vacant capacity : ℕ) : Type 0 where
   pub counted : bytes ≡ used slots
   pub fits : used slots ≤ CAPACITY

@@ -135,9 +135,9 @@ impl Page {
         Spare::new(*self.slots.allocator(), missing)
     }
 
-    /// Puts a row into a slot, with `lsn` as the page's LSN. A slot past the end adds vacant ones before it. It takes no
-    /// memory but `spare`, see [`Page::ready`]. The caller ensures that the row fits, see [`Page::used_with`]: there is
-    /// no refusal for space.
+    /// Puts a row into a slot, with `lsn` as the page's LSN. A slot past the end adds vacant ones before it. It takes
+    /// no memory but `spare`, see [`Page::ready`]. The caller ensures that the row fits, see [`Page::used_with`]: there
+    /// is no refusal for space.
     pub fn put(&mut self, slot: u16, row: Row, spare: Spare, lsn: Lsn)
         requires ready { IsReady self.old.slots slot spare }
         requires fits { used (set_slot self.old.slots slot (Slot.Row row)) ≤ CAPACITY }
