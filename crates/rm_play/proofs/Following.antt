@@ -25,7 +25,7 @@ use Rattle.rm_play.specs.Words.{Progress, lines_at, names_at, no_names, begun, o
 use Rattle.rm_play.specs.Words.{IsStop, GoesOn, ByActors, StopsBy}
 use Rattle.rm_core.proofs.Moves.{Moved, moved-set}
 use Rattle.rm_core.proofs.Runs.{moves_run, run_kept, seat_empty}
-use Rattle.rm_play.proofs.Doing.{Doing, goes_on} 
+use Rattle.rm_play.proofs.Doing.{Doing, goes_on}
 use Rattle.rm_play.proofs.Doing as doing
 
 -- ---- what holds of a session
@@ -67,12 +67,20 @@ turn_stands : (closes : Bool) (lines : List Line) (done : List Outcome) (left : 
     → Going closes lines done left names stage → op_at closes left names txn ≡ Some op → doing.GoesOn outcome seat op
     → Stands closes lines (onto outcome done) (left_with outcome left) (names_with outcome left names) seat
 turn_stands closes lines done [] names txn stage None seat op going is on = inl (record {
-  rest = going.rest; bound = going.bound; follows = going.follows; left_is = going.left_is; named = going.named;
+  rest = going.rest;
+  bound = going.bound;
+  follows = going.follows;
+  left_is = going.left_is;
+  named = going.named;
   at_line = λ line others cut. absurd cc;
   at_end = λ none. subst (Doing seat.stage) (closes_true closes txn op names is).1 on;
 })
 turn_stands closes lines done (line ∷ left) names txn stage None seat op going is on = inl (record {
-  rest = going.rest; bound = going.bound; follows = going.follows; left_is = going.left_is; named = going.named;
+  rest = going.rest;
+  bound = going.bound;
+  follows = going.follows;
+  left_is = going.left_is;
+  named = going.named;
   at_line = λ next others cut.
       let same : op_of next names ≡ op = let first : line ≡ next = cc in ap (λ (l : Line). op_of l names) (sym first) ∙ (let one : Some (op_of line names) ≡ Some op = is in cc) in
       subst (Doing seat.stage) (sym same) on;
@@ -92,8 +100,13 @@ turn_stands closes lines done (line ∷ left) names txn stage (Some outcome) sea
     inl (record {
       rest = left;
       bound = names_after line (reply_of outcome) going.bound;
-      follows = (line, going.bound, subst (λ (l : List Line). Follows lines done l going.bound) (sym cut) going.follows,
-          on.0 ∙ sym (let one : Some (op_of line names) ≡ Some op = is in cc) ∙ ap (op_of line) bound, refl);
+      follows = (
+        line,
+        going.bound,
+        subst (λ (l : List Line). Follows lines done l going.bound) (sym cut) going.follows,
+        on.0 ∙ sym (let one : Some (op_of line names) ≡ Some op = is in cc) ∙ ap (op_of line) bound,
+        refl,
+      );
       left_is = inl refl;
       named = λ next others more. ap (names_after line (reply_of outcome)) bound;
       at_line = λ next others more. subst (λ (st : Stage). Doing st (op_of next (names_after line (reply_of outcome) names))) (sym on.1) tt;
@@ -104,7 +117,10 @@ turn_stands closes lines done (line ∷ left) names txn stage (Some outcome) sea
 stop_stands : (closes : Bool) (lines : List Line) (done : List Outcome) (left : List Line) (names new : List (Option Rid)) (stage : Stage) (seat : Seat) → closes ≡ true
     → Going closes lines done left names stage → seat.stage ≡ idle → Stands closes lines done [] new seat
 stop_stands closes lines done left names new stage seat closing going at = inl (record {
-  rest = going.rest; bound = going.bound; follows = going.follows; left_is = inr (closing, refl);
+  rest = going.rest;
+  bound = going.bound;
+  follows = going.follows;
+  left_is = inr (closing, refl);
   named = λ line others cut. absurd cc;
   at_line = λ line others cut. absurd cc;
   at_end = λ none. subst (λ (st : Stage). Doing st ops.Abort) (sym at) tt;
@@ -232,7 +248,7 @@ session_good closes scripts p k op (turns j turn) state good wants is moves stop
     moves.0.new_is ∙ ap (λ (n : ℕ). after p.machine.opening.setting.format s n (seat_at s.seats n) turn) is.0 in
     let on : doing.GoesOn (outcome_of turn) now op =
     goes_on p.machine.opening.setting.format p.machine.opening.setting.pages s k (seat_at s.seats k) turn op (kept.bare k) is.1.may is.1.takes (doing_of closes (lines_at p k) (names_at p k)
-        (seat_at s.seats k).txn (seat_at s.seats k).stage op (slice_index_or scripts k []) (finished_of p.machine.trace k) going wants) in
+    (seat_at s.seats k).txn (seat_at s.seats k).stage op (slice_index_or scripts k []) (finished_of p.machine.trace k) going wants) in
     advanced_good closes scripts p k (turns j turn) state now good
     (record {
       moves = moves;
