@@ -1,11 +1,11 @@
 -- What redo of a record does to a page.
-use Rattle.std.specs.Prelude.{◌≡◌, ℕ, ◌<◌, ◌≤◌, List, length, Option, Some, None, IsSome, IsSomeAnd}
+use Rattle.std.specs.Prelude.{◌≡◌, ℕ, ◌<◌, ◌≤◌, List, length, option_map, Option, Some, None, IsSome, IsSomeAnd}
 use Rattle.rm_types.specs.declared.numbers.Lsn.{Lsn}
 use Rattle.rm_types.specs.declared.numbers.Rid.{Rid}
 use Rattle.rm_types.specs.declared.slots.Slot.{Slot}
 use Rattle.rm_types.specs.declared.slots.Slot.TheVariants.{Vacant, Row}
 use Rattle.rm_types.specs.declared.slots.TheConstants.{CAPACITY}
-use Rattle.rm_model.specs.Pages.{PageValue, used, set_slot}
+use Rattle.rm_model.specs.Pages.{PageValue, row_of, used, set_slot}
 use Rattle.rm_record.specs.declared.records.LogRecord.{LogRecord}
 use Rattle.rm_record.specs.declared.records.LogRecord.TheVariants.{Insert, Delete, Update, Compensate, Inventory, Commit, End, Checkpoint}
 use Rattle.rm_history.specs.Acts.{act_at}
@@ -25,6 +25,17 @@ set_by (Inventory txn page category) = None
 set_by (Commit txn) = None
 set_by (End txn) = None
 set_by (Checkpoint next losers pages blocks) = None
+
+-- the row id of that slot, and the row that it holds then, if it holds one
+abbrev pub rid_of : LogRecord → Option Rid
+rid_of what = option_map (λ (set : Rid × Slot). set.0) (set_by what)
+
+abbrev pub row_held : Option (Rid × Slot) → Option (List ℕ)
+row_held None = None
+row_held (Some set) = row_of set.1
+
+abbrev pub row_in : LogRecord → Option (List ℕ)
+row_in what = row_held (set_by what)
 
 -- the record sets a slot
 abbrev pub ChangesSlot : LogRecord → Type 0

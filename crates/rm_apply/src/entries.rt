@@ -4,6 +4,7 @@ ghost use Rattle.std.specs.Prelude.{ℕ};
 ghost use Rattle.rm_apply.specs.Entries.{ChangesBlock, EntersCategory, RedoesEntry};
 
 use crate::answers::Applied;
+use crate::sets::category_entered_by;
 use rm_inventory::Inventory;
 use rm_record::LogRecord;
 use rm_types::{BLOCK_PAGES, Lsn, MAX_CATEGORY};
@@ -16,14 +17,12 @@ pub fn redo_inventory(block: &mut Inventory, what: &LogRecord, lsn: Lsn) -> Appl
     if block.lsn() >= lsn {
         return Applied::Older;
     }
-    match what {
-        LogRecord::Inventory { page, category, .. } => {
-            let index = (*page % BLOCK_PAGES) as u16;
-            // The block has that entry.
-            prove!(block.entry(index) <= MAX_CATEGORY);
-            block.set_entry(index, *category, lsn);
-        }
-        _ => unreachable!(),
-    }
+    let Some((page, category)) = category_entered_by(what) else {
+        unreachable!();
+    };
+    let index = (page % BLOCK_PAGES) as u16;
+    // The block has that entry.
+    prove!(block.entry(index) <= MAX_CATEGORY);
+    block.set_entry(index, category, lsn);
     Applied::Changed
 }

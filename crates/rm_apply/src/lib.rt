@@ -7,7 +7,9 @@
 mod answers;
 mod entries;
 mod pages;
+mod sets;
 
 pub use answers::{Applied, ApplyRefused};
 pub use entries::redo_inventory;
 pub use pages::redo;
+pub use sets::{category_entered_by, row_set_by, slot_set_by};

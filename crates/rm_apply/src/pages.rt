@@ -7,9 +7,10 @@ ghost use Rattle.rm_apply.specs.declared.answers.ApplyRefused.TheVariants as ref
 ghost use Rattle.rm_apply.specs.Redo.{CannotHave, ChangesPage, ChangesSlot, Redoes, Refuses};
 
 use crate::answers::{Applied, ApplyRefused};
+use crate::sets::{row_set_by, slot_set_by};
 use rm_page::Page;
 use rm_record::LogRecord;
-use rm_types::{CAPACITY, Lsn, Row, Slot};
+use rm_types::{CAPACITY, Lsn, Row};
 
 // Puts a row into a slot, copied, where the page has the bytes for it.
 fn put(page: &mut Page, number: u16, row: &Row, lsn: Lsn) -> Result<(), ApplyRefused>
@@ -57,16 +58,12 @@ pub fn redo(page: &mut Page, what: &LogRecord, lsn: Lsn) -> Result<Applied, Appl
     if page.lsn() >= lsn {
         return Ok(Applied::Older);
     }
-    match what {
-        LogRecord::Insert { rid, row, .. } | LogRecord::Update { rid, new: row, .. } => {
-            put(page, rid.slot, row, lsn)?
-        }
-        LogRecord::Delete { rid, .. } => clear(page, rid.slot, lsn)?,
-        LogRecord::Compensate { rid, back, .. } => match back {
-            Slot::Row(row) => put(page, rid.slot, row, lsn)?,
-            Slot::Vacant => clear(page, rid.slot, lsn)?,
-        },
-        _ => unreachable!(),
+    let Some(rid) = slot_set_by(what) else {
+        unreachable!();
+    };
+    match row_set_by(what) {
+        Some(row) => put(page, rid.slot, row, lsn)?,
+        None => clear(page, rid.slot, lsn)?,
     }
     Ok(Applied::Changed)
 }

@@ -4,29 +4,32 @@ ghost use Rattle.std.specs.Prelude.{◌≡◌, ◌∷◌, IfOk, OnOk};
 ghost use Rattle.rm_model.specs.Pages.{used as used_by};
 ghost use Rattle.rm_history.specs.Acts.{History, act_of, acts_of};
 ghost use Rattle.rm_model.specs.Categories.{category_of};
-ghost use Rattle.rm_history.specs.Contents.{page_of, version_of, entry_of};
+ghost use Rattle.rm_apply.specs.Redo.{row_in};
+ghost use Rattle.rm_history.specs.Contents.{page_of, version_of, entry_of, slot_of};
 ghost use Rattle.rm_history.specs.Legal.{category_with as category_with_slot};
 
 use crate::slots::{bytes_in, copy_of, set};
+use rm_apply::{category_entered_by, row_set_by, slot_set_by};
 use rm_record::{LogRecord, Logged};
 use rm_types::{Format, Lsn, NoMemory, Rid, SLOT_ENTRY, Slot};
 use std::alloc::Global;
+
+// What the slot that a record sets then holds, copied.
+fn slot_after(what: &LogRecord) -> Result<Slot, NoMemory>
+    ensures { IfOk result (λ slot. slot ≡ slot_of (row_in what.now)) }
+{
+    match row_set_by(what) {
+        Some(row) => Ok(Slot::Row(row.try_clone()?)),
+        None => Ok(Slot::Vacant),
+    }
+}
 
 // Applies one more record to the slots of a page.
 fn page_step(slots: &mut Vec<Slot>, logged: &Logged, page: u32) -> Result<(), NoMemory>
     ensures { (before : History) → slots.old.items ≡ page_of before page → OnOk result (slots.new.items ≡ page_of (act_of logged.now ∷ before) page) }
 {
-    match &logged.what {
-        LogRecord::Insert { rid, row, .. } if rid.page == page => {
-            set(slots, rid.slot, Slot::Row(row.try_clone()?))
-        }
-        LogRecord::Delete { rid, .. } if rid.page == page => set(slots, rid.slot, Slot::Vacant),
-        LogRecord::Update { rid, new, .. } if rid.page == page => {
-            set(slots, rid.slot, Slot::Row(new.try_clone()?))
-        }
-        LogRecord::Compensate { rid, back, .. } if rid.page == page => {
-            set(slots, rid.slot, copy_of(back)?)
-        }
+    match slot_set_by(&logged.what) {
+        Some(rid) if rid.page == page => set(slots, rid.slot, slot_after(&logged.what)?),
         _ => Ok(()),
     }
 }
@@ -47,12 +50,8 @@ pub fn page(alloc: Global, log: &[Logged], number: u32) -> Result<Vec<Slot>, NoM
 fn version_step(version: Lsn, logged: &Logged, page: u32) -> Lsn
     ensures { (before : History) → version.0 ≡ version_of before page → result.0 ≡ version_of (act_of logged.now ∷ before) page }
 {
-    match &logged.what {
-        LogRecord::Insert { rid, .. }
-        | LogRecord::Delete { rid, .. }
-        | LogRecord::Update { rid, .. }
-        | LogRecord::Compensate { rid, .. }
-            if rid.page == page => { logged.lsn }
+    match slot_set_by(&logged.what) {
+        Some(rid) if rid.page == page => logged.lsn,
         _ => version,
     }
 }
@@ -73,8 +72,8 @@ pub fn version(log: &[Logged], page: u32) -> Lsn
 fn entry_step(entry: u8, logged: &Logged, number: u32) -> u8
     ensures { (before : History) → entry ≡ entry_of before number → result ≡ entry_of (act_of logged.now ∷ before) number }
 {
-    match &logged.what {
-        LogRecord::Inventory { page, category, .. } if *page == number => *category,
+    match category_entered_by(&logged.what) {
+        Some((page, category)) if page == number => category,
         _ => entry,
     }
 }
