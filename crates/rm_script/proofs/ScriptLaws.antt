@@ -1,4 +1,5 @@
--- What holds of all scripts: bytes spell one at most, each prefix of one is one, and one line at most is the first wrong.
+-- What holds of all scripts: bytes spell one at most, each prefix of one is one, and one line at most is the first
+-- wrong.
 use Rattle.std.proofs.Common.{◌≡◌, ℕ, suc, ◌<◌, ◌≤◌, List, [], ◌∷◌, ◌++◌, length, inl, inr, refl, sym, ap, subst, ◌∙◌, arith, append_assoc, append-nil}
 use Rattle.std.proofs.lemmas.Bool.{cases_order}
 use Rattle.rm_types.specs.declared.numbers.TheConstants.{MAX_SESSIONS}

@@ -42,8 +42,8 @@ pub fn read_script(alloc: Global, bytes: &[u8]) -> Result<Script, ScriptRefused>
     Err(ScriptRefused::Bad { line: right + 1 })
 }
 
-/// Reads sessions up to the first line that is no operation of theirs and does not begin the next one, and gives what is
-/// left from there.
+/// Reads sessions up to the first line that is no operation of theirs and does not begin the next one, and gives what
+/// is left from there.
 fn read_sessions(alloc: Global, bytes: &[u8]) -> Result<(Vec<Vec<Line>>, &[u8]), NoMemory>
     ensures read { IfOk result (λ read. HasRead (AreSessions (length read.0.items) (lines_in read.0.items)) bytes.now read.1.now) }
     ensures stops { IfOk result (λ read. SessionsStop (length read.0.items) (lines_of read.1.now)) }

@@ -76,7 +76,8 @@ fn the_first_wrong_line_is_named(rt: HostRuntime) -> Result<(), Fail> {
 #[test]
 fn lines_and_words_mean_what_they_say(rt: HostRuntime) -> Result<(), Fail> {
     let alloc = rt.alloc();
-    let text = b"session 1\ninsert $b 3*0a\nupdate 7.65535 00ff\nsession 2\nsave 9\nturns\n2 1*3 f\nfinish 5";
+    let text =
+        b"session 1\ninsert $b 3*0a\nupdate 7.65535 00ff\nsession 2\nsave 9\nturns\n2 1*3 f\nfinish 5";
     let script = read_script(alloc, text)?;
     let found = format!(in alloc; "{:?} {:?}", script.sessions, script.words)?;
     let due = "[[Insert(Name { number: 1 }, Row { bytes: [10, 10, 10] }), \
