@@ -9,8 +9,8 @@ use arrayvec::ArrayString;
 use itoa::Buffer;
 use rm_engine::TurnFault;
 use rm_master::CreateFault;
-use rm_restart::RestartFault;
 use rm_plain::{ScriptRefused, Which};
+use rm_restart::RestartFault;
 use rm_types::{Area, Fault, TxnId};
 
 /// The most bytes that a status line has.
