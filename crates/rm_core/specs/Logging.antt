@@ -14,15 +14,15 @@ use Rattle.rm_core.specs.Outcomes.{Outcome, inserted, altered}
 
 -- the record that an event tells, after these
 abbrev pub IsRecord : Format → History → ℕ → Seen → Option Outcome → Act → Type 0
-IsRecord format before txn (sees.Change rid lsn) done act = (slot : Slot) × (act ≡ changes (setting before txn rid slot lsn))
+IsRecord format before txn (sees.Change rid lsn) _ act = (slot : Slot) × (act ≡ changes (setting before txn rid slot lsn))
 IsRecord format before txn (sees.Settle page lsn) (Some outcome) act = act ≡ enters (entry_now format before txn page lsn)
 IsRecord format before txn (sees.Settle page lsn) None act =
     (last : Change) × IsLast before txn last × (last.rid.page ≡ page) × (act ≡ enters (entry_for format lsn before last))
-IsRecord format before txn (sees.Undo undone lsn) done act = (last : Change) × IsLast before txn last × (last.lsn ≡ undone) × (act ≡ undoes (undo_for lsn last))
-IsRecord format before txn (sees.End lsn) done act = act ≡ ends (record { lsn = lsn; txn = txn })
-IsRecord format before txn (sees.Commit lsn) done act = act ≡ commits (record { lsn = lsn; txn = txn })
-IsRecord format before txn (sees.Append lsn) done act = (l : Listing) × (l.lsn ≡ lsn) × (act ≡ marks (lists l))
-IsRecord format before txn seen done act = ⊥
+IsRecord format before txn (sees.Undo undone lsn) _ act = (last : Change) × IsLast before txn last × (last.lsn ≡ undone) × (act ≡ undoes (undo_for lsn last))
+IsRecord format before txn (sees.End lsn) _ act = act ≡ ends (record { lsn = lsn; txn = txn })
+IsRecord format before txn (sees.Commit lsn) _ act = act ≡ commits (record { lsn = lsn; txn = txn })
+IsRecord format before txn (sees.Append lsn) _ act = (l : Listing) × (l.lsn ≡ lsn) × (act ≡ marks (lists l))
+IsRecord format before txn _ _ act = ⊥
 
 -- an outcome tells what its change left in the slot
 abbrev pub Writes : Outcome → Change → Type 0
@@ -33,7 +33,7 @@ Writes outcome last = ⊥
 -- the reply after a change tells it: that change is the transaction's last pending one
 abbrev pub TellsChange : History → ℕ → Seen → Option Outcome → Type 0
 TellsChange history txn (sees.Settle page lsn) (Some outcome) = (last : Change) × IsLast history txn last × Writes outcome last
-TellsChange history txn seen done = Unit {0}
+TellsChange history txn _ _ = Unit {0}
 
 -- the LSN that an event tells, 0 where it tells of no record
 abbrev pub lsn_in : Seen → ℕ
