@@ -18,5 +18,4 @@ pub mod Stages
 pub mod Telling
 pub mod Searches
 pub mod Acknowledged
-pub mod UndoSpace
 pub mod RestartRoom
