@@ -82,19 +82,11 @@ of_deleter = run 1 (
     ∷ (line.Begin ∷ insert_row 73 98 ∷ insert_row 72 98 ∷ line.Commit ∷ []) ∷ [])
     (turns 1 8 ∷ turns 2 5 ∷ turns 3 11 ∷ turns 2 5 ∷ [])
 
-freed_bytes_stay : printed of_deleter ≡
+freed_bytes_stay : (printed of_deleter ≡
     began 1 1 ∷ inserted 1 0 ∷ committed 1 ∷ began 2 2 ∷ replies_with 2 replies.Deleted ∷ began 3 3 ∷ replies_with 3 replies.NoSpace ∷ inserted 3 1 ∷ committed 3
-    ∷ replies_with 2 replies.Aborted ∷ []
+    ∷ replies_with 2 replies.Aborted ∷ []) × (fullness of_deleter ≡ (4080, 3)) × (rows_in of_deleter 2 ≡ Some (replicate 4000 97) ∷ Some (replicate 72 98) ∷ [])
 unfolding size_of
-freed_bytes_stay = refl
-
-page_is_full : fullness of_deleter ≡ (4080, 3)
-unfolding size_of
-page_is_full = refl
-
-both_rows : rows_in of_deleter 2 ≡ Some (replicate 4000 97) ∷ Some (replicate 72 98) ∷ []
-unfolding size_of
-both_rows = refl
+freed_bytes_stay = (refl, refl, refl)
 
 -- Two others fill the page to its last byte, by 4 + 4 + 30 + 4 + 38 = 80 beside the deleter's 4,000: 39 in place of 38 would be one too many.
 abbrev of_fillers : List Word → Progress

@@ -52,26 +52,18 @@ closes_true true (suc txn) op names is = (refl, (let same : Some ops.Abort ≡ S
 turn_stands : (closes : Bool) (lines : List Line) (done : List Outcome) (left : List Line) (names : List (Option Rid)) (txn : ℕ) (stage : Stage) (outcome : Option Outcome) (seat : Seat) (op : Op)
     → Going closes lines done left names stage → op_at closes left names txn ≡ Some op → doing.GoesOn outcome seat op
     → Stands closes lines (onto outcome done) (left_with outcome left) (names_with outcome left names) seat
-turn_stands closes lines done [] names txn stage None seat op going is on = inl (record {
-  rest = going.rest;
-  bound = going.bound;
-  follows = going.follows;
-  left_is = going.left_is;
-  named = going.named;
-  at_line = λ line others cut. absurd cc;
-  at_end = λ none. subst (Doing seat.stage) (closes_true closes txn op names is).1 on;
-})
-turn_stands closes lines done (line ∷ left) names txn stage None seat op going is on = inl (record {
-  rest = going.rest;
-  bound = going.bound;
-  follows = going.follows;
-  left_is = going.left_is;
-  named = going.named;
-  at_line = λ next others cut.
-      let same : op_of next names ≡ op = let first : line ≡ next = cc in ap (λ (l : Line). op_of l names) (sym first) ∙ (let one : Some (op_of line names) ≡ Some op = is in cc) in
-      subst (Doing seat.stage) (sym same) on;
-  at_end = λ none. absurd cc;
-})
+turn_stands closes lines done left names txn stage None seat op going is on =
+    let At : List Line → Type 0 = λ l. op_at closes l names txn ≡ Some op in
+    inl (record {
+      rest = going.rest;
+      bound = going.bound;
+      follows = going.follows;
+      left_is = going.left_is;
+      named = going.named;
+      at_line = λ line others cut. let one : Some (op_of line names) ≡ Some op = subst At cut is in let same : op_of line names ≡ op = cc in
+          subst (Doing seat.stage) (sym same) on;
+      at_end = λ none. subst (Doing seat.stage) (closes_true closes txn op names (subst At none is)).1 on;
+    })
 turn_stands closes lines done [] names txn stage (Some outcome) seat op going is on =
     let closing = closes_true closes txn op names is in
     inr (record {
@@ -178,22 +170,12 @@ advanced_good closes scripts p k move state seat good goes own =
       each = λ j. elim (cases_eq k j) [
         | inl same ↦
             subst (λ (n : ℕ). Stands closes (slice_index_or scripts n []) (finished_of new.machine.trace n) (lines_at new n) (names_at new n) (seat_at state.seats n)) same
-            (subst (λ (s : Seat). Stands closes (slice_index_or scripts k []) (finished_of new.machine.trace k) (lines_at new k) (names_at new k) s) (sym goes.seats.here)
-            (subst (λ (l : List Line). Stands closes (slice_index_or scripts k []) (finished_of new.machine.trace k) l (names_at new k) seat)
-            (sym (put_at p.lines k left (left_put move p.lines k (lines_at p k) refl)))
-            (subst (λ (l : List (Option Rid)). Stands closes (slice_index_or scripts k []) (finished_of new.machine.trace k) left l seat)
-            (sym (put_at p.names k names (names_put (finished_by move) p.names p.lines k (lines_at p k) good.sized refl)))
-            (subst (λ (l : List Outcome). Stands closes (slice_index_or scripts k []) l left names seat)
-            (sym (goes.done k ∙ if_equal k k (onto (finished_by move) (finished_of p.machine.trace k)) (finished_of p.machine.trace k) refl)) own))))
+            (rw (goes.seats.here, put_at p.lines k left (left_put move p.lines k (lines_at p k) refl),
+            put_at p.names k names (names_put (finished_by move) p.names p.lines k (lines_at p k) good.sized refl), goes.done k, if_equal k k _ _ refl) own)
         | inr differs ↦
             let other : j ≡ k → ⊥ = λ same. differs (sym same) in
-            subst (λ (s : Seat). Stands closes (slice_index_or scripts j []) (finished_of new.machine.trace j) (lines_at new j) (names_at new j) s) (sym (goes.seats.other j other))
-            (subst (λ (l : List Line). Stands closes (slice_index_or scripts j []) (finished_of new.machine.trace j) l (names_at new j) (seat_at p.machine.state.seats j))
-            (sym (get_or-set_other p.lines k j left [] other))
-            (subst (λ (l : List (Option Rid)). Stands closes (slice_index_or scripts j []) (finished_of new.machine.trace j) (lines_at p j) l (seat_at p.machine.state.seats j))
-            (sym (get_or-set_other p.names k j names [] other))
-            (subst (λ (l : List Outcome). Stands closes (slice_index_or scripts j []) l (lines_at p j) (names_at p j) (seat_at p.machine.state.seats j))
-            (sym (goes.done j ∙ if_different k j (onto (finished_by move) (finished_of p.machine.trace j)) (finished_of p.machine.trace j) differs)) (good.each j))))
+            rw (goes.seats.other j other, get_or-set_other p.lines k j left [] other, get_or-set_other p.names k j names [] other,
+            goes.done j, if_different k j _ _ differs) (good.each j)
       ];
     }
 
@@ -233,7 +215,7 @@ session_good closes scripts p k op (turns j turn) state good wants is moves stop
     let made : state ≡ after p.machine.opening.setting.format s k (seat_at s.seats k) turn =
     moves.0.new_is ∙ ap (λ (n : ℕ). after p.machine.opening.setting.format s n (seat_at s.seats n) turn) is.0 in
     let on : doing.GoesOn (outcome_of turn) now op =
-    goes_on p.machine.opening.setting.format p.machine.opening.setting.pages s k (seat_at s.seats k) turn op (kept.bare k) is.1.may is.1.takes (doing_of closes (lines_at p k) (names_at p k)
+    goes_on p.machine.opening.setting.format p.machine.opening.setting.pages s k (seat_at s.seats k) op (kept.bare k) turn is.1.may is.1.takes (doing_of closes (lines_at p k) (names_at p k)
     (seat_at s.seats k).txn (seat_at s.seats k).stage op (slice_index_or scripts k []) (finished_of p.machine.trace k) going wants) in
     advanced_good closes scripts p k (turns j turn) state now good
     (record {

@@ -12,6 +12,7 @@ use Rattle.rm_core.proofs.Names.{inl, inr, refl, sym, ap, subst, ◌∙◌, arit
 use Rattle.rm_core.proofs.Names.{pending-change_other, pending-undo_other, pending-commit_other, pending-end_other}
 use Rattle.rm_core.proofs.Moves.{moved-set}
 use Rattle.rm_core.proofs.Runs.{moves_run, run_kept}
+use Rattle.rm_core.proofs.Stages.{apart_or_idle, turn_elsewhere}
 use Rattle.rm_core.proofs.Steps.{heads_at}
 use Rattle.rm_play.proofs.Inside.{Within, run_inside}
 use Rattle.rm_events.specs.declared.operations.Op.TheVariants as ops
@@ -150,17 +151,6 @@ turns_come_nearer m k op turn new run step takes =
 
 -- ---- over many moves
 
--- a turn leaves another transaction's changes pending
-pending_still : (format : Format) (pages : ℕ) (s : State) (j : ℕ) (seat : Seat) (turn : Turn) (txn : ℕ) → IsSeated seat turn → May format pages s j seat turn → ((seat.txn ≡ 0 → ⊥) → seat.txn ≡ txn → ⊥)
-    → pending_of (logging (effect format s seat turn).logged s.history) txn ≡ pending_of s.history txn
-pending_still format pages s j seat (insert row rid lsn) txn seated may differs = pending-change_other _ s.history txn (differs seated)
-pending_still format pages s j seat (alter rid slot lsn) txn seated may differs = pending-change_other _ s.history txn (differs seated)
-pending_still format pages s j seat (commit lsn) txn seated may differs = pending-commit_other (record { lsn = lsn; txn = seat.txn }) s.history txn (differs seated)
-pending_still format pages s j seat (end outcome lsn) txn seated may differs = pending-end_other (record { lsn = lsn; txn = seat.txn }) s.history txn (differs seated)
-pending_still format pages s j seat (compensate aim last lsn) txn seated may differs =
-    pending-undo_other (undo_for lsn last) s.history txn (λ same. differs seated (sym (last_is_of s.history seat.txn last may.1.0 may.1.1) ∙ same))
-pending_still format pages s j seat other txn seated may differs = refl
-
 -- another session's turn leaves the session's turns
 step_leaves : (format : Format) (pages : ℕ) (old new : State) (j k : ℕ) (turn : Turn) → Kept format old → Step format pages old j turn new → (j ≡ k → ⊥)
     → turns_left pages new.history (seat_at new.seats k) ≡ turns_left pages old.history (seat_at old.seats k)
@@ -169,8 +159,11 @@ step_leaves format pages old new j k turn kept step differs =
     let others : k ≡ j → ⊥ = λ same. differs (sym same) in
     ap (λ (s : State). turns_left pages s.history (seat_at s.seats k)) step.new_is
     ∙ ap (turns_left pages (logging e.logged old.history)) ((moved-set old.seats j e.seat step.among).other k others)
-    ∙ ap (λ (l : List Change). left_at pages l (seat_at old.seats k).stage)
-    (pending_still format pages old j (seat_at old.seats j) turn (seat_at old.seats k).txn step.seated step.may (λ some same. others (kept.single k j some (sym same))))
+    ∙ elim (apart_or_idle format old j k kept others) [
+      | inl at ↦ rw at refl
+      | inr apart ↦ ap (λ (l : List Change). left_at pages l (seat_at old.seats k).stage)
+          ((turn_elsewhere format pages old j (seat_at old.seats j) turn step.may).pending (seat_at old.seats k).txn apart)
+    ]
 
 -- an operation that is closed leaves the session none
 closed_leaves : (pages : ℕ) (s : State) (j k : ℕ) → j < length s.seats → turns_left pages s.history (seat_at (closed s j).seats k) ≤ turns_left pages s.history (seat_at s.seats k)
