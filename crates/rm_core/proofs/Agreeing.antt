@@ -15,7 +15,7 @@ use Rattle.rm_core.specs.Names.{scan_last, latch, try, try_last, insert, lock, l
 use Rattle.rm_core.specs.Names.{finish, abort, prepared, prepare, compensate, end, save, no_target, target, back}
 use Rattle.rm_core.proofs.Names.{inl, inr, cond, refl, sym, ap, subst, subst₂, ◌∙◌, arith, cases_eq, last_is_of, pending_falls, finished_has_record}
 use Rattle.rm_core.proofs.Names.{unrecorded_has_none, pending_of-undo, if_equal, if_different, pending-change, legal_is_in_order}
-use Rattle.rm_core.proofs.Closing.{Closes}
+use Rattle.rm_core.proofs.Keeping.{Closes}
 use Rattle.rm_core.proofs.Grants.{alone_has, released_any, joined_any, joined_more}
 use Rattle.rm_core.proofs.Moves.{Moved, moved-set}
 use Rattle.rm_core.proofs.Savepoints.{until, until_less, until_all, MadeAt, Saved, saved_as, saved_dropped, saved_had, Found, found}

@@ -6,16 +6,38 @@ use Rattle.rm_core.specs.Names.{closed, aborted, died, bytes_for, claims_at, cla
 use Rattle.rm_core.specs.Names.{returns, dropped, upto, Stage, idle, seeks, wants, tries, reads, fetches, alters, sets, settles, forces, finishes, rolls}
 use Rattle.rm_core.specs.Names.{prepares, compensates, Seat, State, seat_at, Turn, skip, unname, refuse, begin, scan, scan_last, latch, try, try_last, insert}
 use Rattle.rm_core.specs.Names.{lock, lock_alone, wait, die, fetch, miss, lack, alter, settled, settle, commit, force, finish, abort, prepared, prepare}
-use Rattle.rm_core.specs.Names.{compensate, end, save, no_target, target, back}
+use Rattle.rm_core.specs.Names.{compensate, end, save, no_target, target, back, owes_at, owed_by, staged, Setting, Lacks, IsRefused}
 use Rattle.rm_core.proofs.Names.{set, refl, sym, ap, subst, ◌∙◌, arith, ne_eqb, length-set, last_is_of, sum_below-one, pending_of-undo, pending-undo_other}
-use Rattle.rm_core.proofs.Names.{pending-commit_other, pending-end_other}
-use Rattle.rm_core.proofs.Comings.{begin_keeps, finish_keeps, end_keeps}
-use Rattle.rm_core.proofs.Logging.{insert_keeps, alter_keeps, settle_keeps, prepare_keeps, compensate_keeps, commit_keeps}
+use Rattle.rm_core.proofs.Names.{pending-commit_other, pending-end_other, inl, inr, cond, eqb, cases_eq, eq-eqb, sum_below-less}
+use Rattle.rm_core.proofs.Turns.{begin_keeps, finish_keeps, end_keeps, insert_keeps, alter_keeps, settle_keeps, prepare_keeps, compensate_keeps, commit_keeps}
+use Rattle.rm_core.proofs.Turns.{Turns, IsPlain, plain, IsFree, free, left_by, goes, scans_plain, lock_keeps, lock_alone_keeps, force_keeps, settled_keeps}
+use Rattle.rm_core.proofs.Turns.{prepared_keeps, latch_keeps}
 use Rattle.rm_core.proofs.Moves.{Moved, moved-set, same_state}
-use Rattle.rm_core.proofs.Quiet.{Turns, IsPlain, plain, IsFree, free, left_by, goes}
 use Rattle.rm_core.proofs.Sizes.{entry_size, commit_size, end_size, undo_size, next_within, next_after}
-use Rattle.rm_core.proofs.Space.{all_owed, claim-other}
-use Rattle.rm_core.proofs.Steps.{scans_plain, lock_keeps, lock_alone_keeps, force_keeps, settled_keeps, prepared_keeps, latch_keeps}
+
+claims_owed : (stage : Stage) (bytes : ℕ) → claims_at stage bytes ≤ owes_at stage bytes
+claims_owed (settles outcome page) bytes = omega arith
+claims_owed (compensates aim page) bytes = omega arith
+claims_owed forces bytes = omega arith
+claims_owed finishes bytes = omega arith
+claims_owed other bytes = omega arith
+
+claim_owed : (history : History) (seat : Seat) → claim_of history seat ≤ owed_by history seat
+claim_owed history seat = elim (cases_eq seat.txn 0) [
+  | inl none ↦ rw (eq-eqb seat.txn 0 none) (omega arith)
+  | inr some ↦ rw (ne_eqb seat.txn 0 some) (claims_owed seat.stage (bytes_for (pending_of history seat.txn)))
+]
+
+pub all_owed : (s : State) → claims s ≤ owed s
+all_owed s = sum_below-less (λ k. owed_by s.history (seat_at s.seats k)) (λ k. claim_of s.history (seat_at s.seats k)) (length s.seats)
+    (λ k. claim_owed s.history (seat_at s.seats k))
+
+pub claim-other : (old new : History) (txn : ℕ) (seat : Seat) → ((other : ℕ) → (other ≡ txn → ⊥) → pending_of new other ≡ pending_of old other)
+    → ((seat.txn ≡ 0 → ⊥) → seat.txn ≡ txn → ⊥) → claim_of new seat ≡ claim_of old seat
+claim-other old new txn seat pending other = elim (cases_eq seat.txn 0) [
+  | inl none ↦ rw (eq-eqb seat.txn 0 none) refl
+  | inr some ↦ ap (λ (l : List Change). cond (eqb seat.txn 0) 0 (claims_at seat.stage (bytes_for l))) (pending seat.txn (other some))
+]
 
 -- what is known of a state: all that is kept, and that it has room
 pub record Known (format : Format) (limit : ℕ) (s : State) : Type 0 where
@@ -185,3 +207,32 @@ pub turn_known : (format : Format) (pages limit : ℕ) (old new : State) (k : �
 turn_known format pages limit old new k turn known step asks =
     subst (Known format limit) (sym step.new_is)
     (turn_keeps format limit old k known step.among pages turn step.seated step.may (subst (HasRoomFor limit old turn) step.new_is asks))
+
+-- ---- an operation that is refused for want of room in the log is closed
+
+-- the stages at which a turn may be refused
+abbrev pub Closes : Stage → Type 0
+Closes idle = Unit {0}
+Closes (tries row page) = Unit {0}
+Closes (sets rid slot) = Unit {0}
+Closes other = ⊥
+
+closes_at : (format : Format) (pages limit offset : ℕ) (s : State) (k : ℕ) (turn : Turn) → Kept format s → May format pages s k (seat_at s.seats k) turn
+    → Lacks limit offset turn (after format s k (seat_at s.seats k) turn) → Closes (seat_at s.seats k).stage
+closes_at format pages limit offset s k (begin txn) kept may lacks = subst Closes (sym (kept.bare k may.0)) tt
+closes_at format pages limit offset s k (insert row rid lsn) kept may lacks = subst Closes (sym may.at) tt
+closes_at format pages limit offset s k (alter rid slot lsn) kept may lacks = subst Closes (sym may.at) tt
+closes_at format pages limit offset s k other kept may lacks = absurd lacks
+
+pub refused_closes : (m : Setting) (s : State) (k offset : ℕ) → Kept m.format s → IsRefused m s k offset → Closes (seat_at s.seats k).stage
+refused_closes m s k offset kept is = closes_at m.format m.pages m.limit offset s k is.turn kept is.may is.lacks
+
+pub is_closed : (m : Setting) (s : State) (k : ℕ) (stage : Stage) → Known m.format m.limit s → k < length s.seats → (seat_at s.seats k).stage ≡ stage → Closes stage
+    → Known m.format m.limit (closed s k)
+is_closed m s k idle known among at closing =
+    subst (Known m.format m.limit) (sym (ap (λ (st : Stage). with_effect s k (goes_to s (staged (seat_at s.seats k) st))) (sym at) ∙ same_state s k)) known
+is_closed m s k (tries row page) known among at closing =
+    closes m.format m.limit s k known among (tries row page) (λ none. let same : tries row page ≡ idle = sym at ∙ known.kept.bare k none in absurd cc) at tt
+is_closed m s k (sets rid slot) known among at closing =
+    closes m.format m.limit s k known among (sets rid slot) (λ none. let same : sets rid slot ≡ idle = sym at ∙ known.kept.bare k none in absurd cc) at tt
+is_closed m s k other known among at closing = absurd closing

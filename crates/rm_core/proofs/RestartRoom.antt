@@ -11,11 +11,10 @@ use Rattle.rm_core.specs.Names.{claim_of, claims, Opening, Machine, IsRun, moved
 use Rattle.rm_core.specs.Names.{Seat, State, seat_at, Turn, skip, unname, begin, insert, alter, settle, commit, finish, prepare, compensate, end}
 use Rattle.rm_core.proofs.Names.{inl, inr, set, refl, sym, ap, subst, ◌∙◌, arith, length-append, cases_eq, eq-eqb, ne_eqb, last_is_unfinished, last_has_record}
 use Rattle.rm_core.proofs.Names.{sum_below-less, Elsewhere}
-use Rattle.rm_core.proofs.Along.{setting_of, seat_of, turned, Makes, run_in_order, kept_along, each_seat}
+use Rattle.rm_core.proofs.Runs.{setting_of, seat_of, turned, Makes, run_in_order, kept_along, each_seat, moves_run, run_known, run_kept}
 use Rattle.rm_core.proofs.Moves.{moved-set}
-use Rattle.rm_core.proofs.Runs.{moves_run, run_known, run_kept}
 use Rattle.rm_core.proofs.Sizes.{commit_size, end_size, undo_size, next_within}
-use Rattle.rm_core.proofs.Space.{all_owed}
+use Rattle.rm_core.proofs.Keeping.{all_owed}
 use Rattle.rm_core.proofs.Stages.{Any, turn_elsewhere}
 
 -- ---- sums over sessions, and over what is to be undone

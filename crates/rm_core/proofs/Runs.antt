@@ -1,14 +1,15 @@
--- What holds at an opening and is kept by each move holds of each run.
-use Rattle.rm_core.specs.Below.{◌≡◌, ℕ, zero, suc, List, [], ◌∷◌, length, replicate, Format, sum_below, Listing, History}
+-- What holds at an opening, and is kept by each move or with each event, holds of each run.
+use Rattle.rm_core.specs.Below.{◌≡◌, ℕ, zero, suc, List, [], ◌∷◌, length, replicate, Format, sum_below, Listing, History, ◌<◌, None, IsInOrder, Actor}
+use Rattle.rm_core.specs.Below.{Checkpoint, Seen}
 use Rattle.rm_core.specs.Names.{Event, Locked, Seated, Kept, MovesRun, RunsAreKept, Latches, Setting, again, log_full, spent, MayAppend, appended, Move, turns}
 use Rattle.rm_core.specs.Names.{answered, appends, append_refused, rests, Moves, claim_of, Opening, IsOpening, opened, Machine, Runs, IsRun, started, moved}
-use Rattle.rm_core.specs.Names.{Seat, State, seat_at, empty_seat}
+use Rattle.rm_core.specs.Names.{Seat, State, seat_at, empty_seat, after, event_of, closed, MayRest, HasRoomFor, traced, Turn}
 use Rattle.rm_core.proofs.Names.{inl, refl, sym, ap, subst, ◌∙◌, arith, change_has_record, sum_below-zero, sum_below-same, legal_is_in_order, fits_in_order}
-use Rattle.rm_core.proofs.Names.{entries_follow}
-use Rattle.rm_core.proofs.Closing.{is_closed, refused_closes}
-use Rattle.rm_core.proofs.Keeping.{Known, turn_known}
+use Rattle.rm_core.proofs.Names.{entries_follow, inr, set, cases_eq}
+use Rattle.rm_core.proofs.Keeping.{is_closed, refused_closes, Known, turn_known, all_owed}
 use Rattle.rm_core.proofs.Sizes.{next_above}
-use Rattle.rm_core.proofs.Space.{all_owed}
+use Rattle.rm_core.proofs.Moves.{Moved, moved-set}
+use Rattle.rm_events.specs.declared.events.Seen.TheVariants as sees
 
 -- ---- induction
 
@@ -107,3 +108,73 @@ run_known = along (λ (m : Machine). Known m.opening.setting.format m.opening.se
 
 pub run_kept : RunsAreKept
 run_kept m run = (run_known m run).kept
+
+-- ---- parts of a machine
+
+abbrev pub setting_of : Machine → Setting
+setting_of m = m.opening.setting
+
+abbrev pub seat_of : Machine → ℕ → Seat
+seat_of m k = seat_at m.state.seats k
+
+-- the state after a turn of a session, which it makes
+abbrev pub turned : Machine → ℕ → Turn → State
+turned m k turn = after (setting_of m).format m.state k (seat_of m k) turn
+
+abbrev pub Makes : Machine → ℕ → Turn → Type 0
+Makes m k turn = Moves (setting_of m) m.state (turns k turn) (turned m k turn)
+
+-- the event of a checkpoint's record; that of another turn of the background
+abbrev pub append_event : Listing → Event
+append_event l = record { actor = Checkpoint; txn = 0; seen = sees.Append l.lsn; done = None }
+
+abbrev pub rest_event : Actor → Seen → Event
+rest_event actor seen = record { actor = actor; txn = 0; seen = seen; done = None }
+
+pub run_in_order : (m : Machine) → IsRun m → IsInOrder m.state.history
+run_in_order m run = legal_is_in_order (setting_of m).format m.state.history (run_kept m run).legal
+
+-- ---- induction over events
+
+-- a property of an opening, a trace and a state
+abbrev pub Of : (Opening → List Event → State → Type 0) → Machine → Type 0
+Of P m = P m.opening m.trace m.state
+
+pub record IsKept (P : Opening → List Event → State → Type 0) : Type 0 where
+  pub base : (o : Opening) → IsOpening o → P o [] (opened o)
+  pub turn : (m : Machine) (k : ℕ) (turn : Turn) → IsRun m → Of P m → Makes m k turn
+      → P m.opening (event_of (setting_of m).pages m.state k turn ∷ m.trace) (turned m k turn)
+  pub close : (m : Machine) (k : ℕ) → IsRun m → Of P m → k < length m.state.seats → P m.opening m.trace (closed m.state k)
+  pub append : (m : Machine) (l : Listing) → IsRun m → Of P m → Moves (setting_of m) m.state (appends l) (appended m.state l)
+      → P m.opening (append_event l ∷ m.trace) (appended m.state l)
+  pub rest : (m : Machine) (actor : Actor) (seen : Seen) → IsRun m → Of P m → MayRest m.state actor seen → P m.opening (rest_event actor seen ∷ m.trace) m.state
+
+kept_move : (P : Opening → List Event → State → Type 0) → IsKept P → (m : Machine) (new : State) (move : Move) → IsRun m → Of P m
+    → Moves (setting_of m) m.state move new → P m.opening (traced (setting_of m).pages m.state move m.trace) new
+kept_move P kept m new (turns k turn) run of moves =
+    subst (P m.opening (event_of (setting_of m).pages m.state k turn ∷ m.trace)) (sym moves.0.new_is) (kept.turn m k turn run of (
+      record { among = moves.0.among; seated = moves.0.seated; may = moves.0.may; new_is = refl },
+      subst (HasRoomFor (setting_of m).limit m.state turn) moves.0.new_is moves.1,
+    ))
+kept_move P kept m new (answered k (again by)) run of moves = subst (P m.opening m.trace) (sym moves.1.1) of
+kept_move P kept m new (answered k (log_full at)) run of moves = subst (P m.opening m.trace) (sym moves.1.1) (kept.close m k run of moves.0)
+kept_move P kept m new (answered k (spent last)) run of moves = subst (P m.opening m.trace) (sym moves.1.2) of
+kept_move P kept m new (appends l) run of moves =
+    subst (P m.opening (append_event l ∷ m.trace)) (sym moves.2) (kept.append m l run of (moves.0, moves.1, refl))
+kept_move P kept m new (append_refused at) run of moves = subst (P m.opening m.trace) (sym moves.1) of
+kept_move P kept m new (rests actor seen) run of moves =
+    subst (P m.opening (rest_event actor seen ∷ m.trace)) (sym moves.1) (kept.rest m actor seen run of moves.0)
+
+pub kept_along : (P : Opening → List Event → State → Type 0) → IsKept P → (m : Machine) → IsRun m → Of P m
+kept_along P kept = along (Of P) kept.base (λ m move new run of moves. kept_move P kept m new move run of moves)
+
+-- ---- one seat is another
+
+pub each_seat : (P : ℕ → Seat → Type 0) (seats : List Seat) (k : ℕ) (seat : Seat) → k < length seats → P k seat
+    → ((j : ℕ) → (j ≡ k → ⊥) → P j (seat_at seats j)) → (j : ℕ) → P j (seat_at (set seats k seat) j)
+each_seat P seats k seat among here others j =
+    let moved : Moved (seat_at seats) (seat_at (set seats k seat)) k seat = moved-set seats k seat among in
+    elim (cases_eq j k) [
+      | inl is ↦ subst (λ (i : ℕ). P i (seat_at (set seats k seat) i)) (sym is) (subst (P k) (sym moved.here) here)
+      | inr not ↦ subst (P j) (sym (moved.other j not)) (others j not)
+    ]

@@ -7,7 +7,7 @@ use Rattle.rm_core.specs.Names.{ordered_with, order_of, IsAmong, commits_in, Out
 use Rattle.rm_core.specs.Names.{Turn, commit}
 use Rattle.rm_core.proofs.Names.{inl, inr, eqb, refl, sym, ap, subst, subst₂, ◌∙◌, arith, one-add, length-append, cases_eq, cond_both, if_equal, if_different}
 use Rattle.rm_core.proofs.Agreeing.{applied-same, view, Agreeing, IsQuiet, KeepsLocks, running_still, finished_logged, here, own, turn_agrees, closed_agrees}
-use Rattle.rm_core.proofs.Closing.{Closes, refused_closes}
+use Rattle.rm_core.proofs.Keeping.{Closes, refused_closes}
 use Rattle.rm_core.proofs.Runs.{along, run_kept, txn_none}
 use Rattle.rm_events.specs.declared.events.Seen.TheVariants as sees
 

@@ -10,8 +10,7 @@ use Rattle.rm_core.specs.Names.{seat_at, Turn, skip, unname, refuse, scan, scan_
 use Rattle.rm_core.specs.Names.{force, finish, prepared, prepare, compensate, end}
 use Rattle.rm_core.proofs.Names.{inl, inr, refl, sym, ap, subst, ◌∙◌, arith, cases_eq, cases_lt, eq-eqb, ne_eqb, last_is_of, pending-change, legal_is_in_order}
 use Rattle.rm_core.proofs.Names.{Elsewhere, elsewhere-none, elsewhere-change, elsewhere-undo, elsewhere-enter, elsewhere-commit, elsewhere-end}
-use Rattle.rm_core.proofs.Along.{setting_of, seat_of, append_event, rest_event, kept_along, each_seat}
-use Rattle.rm_core.proofs.Runs.{seat_empty, run_kept}
+use Rattle.rm_core.proofs.Runs.{setting_of, seat_of, append_event, rest_event, kept_along, each_seat, seat_empty, run_kept}
 use Rattle.rm_core.proofs.Sizes.{size_some}
 use Rattle.rm_events.specs.declared.events.Seen.TheVariants as sees
 

@@ -23,13 +23,13 @@ pub fn runs_are_serial()
 {}
 
 /// The events tell the records past the opened log, in order.
-#[tactic(auto, using(crate::proofs::Telling::traces_tell_logs))]
+#[tactic(auto, using(crate::proofs::Told::traces_tell_logs))]
 pub fn traces_tell_logs()
     ensures { TracesTellLogs }
 {}
 
 /// A transaction that was told that it is committed has a durable commit record.
-#[tactic(auto, using(crate::proofs::Acknowledged::acknowledged_is_durable))]
+#[tactic(auto, using(crate::proofs::Told::acknowledged_is_durable))]
 pub fn acknowledged_is_durable()
     ensures { AcknowledgedIsDurable }
 {}
@@ -47,13 +47,13 @@ pub fn undo_has_space()
 {}
 
 /// An insert is told that there is no space where it handled each page of the file, and always where none is left.
-#[tactic(auto, using(crate::proofs::Searches::no_space_is_exact))]
+#[tactic(auto, using(crate::proofs::Told::no_space_is_exact))]
 pub fn no_space_is_exact()
     ensures { NoSpaceIsExact }
 {}
 
 /// A read is told what the slot of the page holds.
-#[tactic(auto, using(crate::proofs::Searches::reads_are_exact))]
+#[tactic(auto, using(crate::proofs::Told::reads_are_exact))]
 pub fn reads_are_exact()
     ensures { ReadsAreExact }
 {}

@@ -12,7 +12,7 @@ use Rattle.rm_play.specs.{asking, chosen_at, chosen, state_after, ChosenIsMove, 
 use Rattle.rm_core.proofs.Names.{inl, inr, leb, cond, refl, sym, ap, subst, ◌∙◌, arith, Decides-and, Decides-eqb, Decides-ltb, pending_falls, legal_is_in_order}
 use Rattle.rm_core.proofs.Runs.{run_kept}
 use Rattle.rm_core.proofs.Sizes.{next_within, next_after}
-use Rattle.rm_core.proofs.Steps.{heads_at}
+use Rattle.rm_core.proofs.Turns.{heads_at}
 use Rattle.rm_play.proofs.Inside.{Within, Inside, run_inside}
 use Rattle.rm_play.proofs.Finding.{if_else, decides_le, decides_number, In, with_least, first_is_least, barring_is_least, Keeps, blocker_is_least}
 use Rattle.rm_play.proofs.Finding.{slot_is_for_row}

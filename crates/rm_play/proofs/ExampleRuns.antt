@@ -96,20 +96,14 @@ of_fillers words = run 1 (
     ∷ (line.Begin ∷ insert_row 30 98 ∷ line.Commit ∷ [])
     ∷ (line.Begin ∷ insert_row 39 99 ∷ insert_row 38 99 ∷ line.Commit ∷ []) ∷ []) words
 
-two_fill_the_page : printed (of_fillers (turns 1 8 ∷ turns 2 5 ∷ turns 3 5 ∷ turns 4 8 ∷ turns 3 3 ∷ turns 4 3 ∷ turns 2 5 ∷ [])) ≡
-    began 1 1 ∷ inserted 1 0 ∷ committed 1 ∷ began 2 2 ∷ replies_with 2 replies.Deleted ∷ began 3 3 ∷ inserted 3 1 ∷ began 4 4 ∷ replies_with 4 replies.NoSpace
-    ∷ inserted 4 2 ∷ committed 3 ∷ committed 4 ∷ replies_with 2 replies.Aborted ∷ []
+two_fill_the_page :
+    let before = of_fillers (turns 1 8 ∷ turns 2 5 ∷ turns 3 5 ∷ turns 4 8 ∷ []) in
+    let all = of_fillers (turns 1 8 ∷ turns 2 5 ∷ turns 3 5 ∷ turns 4 8 ∷ turns 3 3 ∷ turns 4 3 ∷ turns 2 5 ∷ []) in
+    (printed all ≡ began 1 1 ∷ inserted 1 0 ∷ committed 1 ∷ began 2 2 ∷ replies_with 2 replies.Deleted ∷ began 3 3 ∷ inserted 3 1 ∷ began 4 4
+    ∷ replies_with 4 replies.NoSpace ∷ inserted 4 2 ∷ committed 3 ∷ committed 4 ∷ replies_with 2 replies.Aborted ∷ [])
+    × (fullness before ≡ (80, 0)) × (need_of before.machine.state.history 2 0 ≡ 4000) × (fullness all ≡ (4080, 3))
 unfolding size_of
-two_fill_the_page = refl
-
-before_the_undo : (fullness (of_fillers (turns 1 8 ∷ turns 2 5 ∷ turns 3 5 ∷ turns 4 8 ∷ [])) ≡ (80, 0))
-    × (need_of (of_fillers (turns 1 8 ∷ turns 2 5 ∷ turns 3 5 ∷ turns 4 8 ∷ [])).machine.state.history 2 0 ≡ 4000)
-unfolding size_of
-before_the_undo = (refl, refl)
-
-after_the_undo : fullness (of_fillers (turns 1 8 ∷ turns 2 5 ∷ turns 3 5 ∷ turns 4 8 ∷ turns 3 3 ∷ turns 4 3 ∷ turns 2 5 ∷ [])) ≡ (4080, 3)
-unfolding size_of
-after_the_undo = refl
+two_fill_the_page = (refl, refl, refl, refl)
 
 -- the deleter itself may use them, in the slot that it holds, and then finds them again
 abbrev of_reuser : List Word → Progress
@@ -117,18 +111,13 @@ of_reuser words = run 1 (
     (line.Begin ∷ insert_row 4000 97 ∷ line.Commit ∷ [])
     ∷ (line.Begin ∷ line.Delete (At (at 0)) ∷ insert_row 3000 99 ∷ line.Abort ∷ []) ∷ []) words
 
-own_bytes_are_used : printed (of_reuser (turns 1 8 ∷ turns 2 9 ∷ turns 2 8 ∷ [])) ≡
-    began 1 1 ∷ inserted 1 0 ∷ committed 1 ∷ began 2 2 ∷ replies_with 2 replies.Deleted ∷ inserted 2 0 ∷ replies_with 2 replies.Aborted ∷ []
+own_bytes_are_used :
+    let before = of_reuser (turns 1 8 ∷ turns 2 9 ∷ []) in
+    let all = of_reuser (turns 1 8 ∷ turns 2 9 ∷ turns 2 8 ∷ []) in
+    (printed all ≡ began 1 1 ∷ inserted 1 0 ∷ committed 1 ∷ began 2 2 ∷ replies_with 2 replies.Deleted ∷ inserted 2 0 ∷ replies_with 2 replies.Aborted ∷ [])
+    × (fullness before ≡ (3004, 2)) × (need_of before.machine.state.history 2 0 ≡ 1000) × (rows_in all 1 ≡ Some (replicate 4000 97) ∷ [])
 unfolding size_of
-own_bytes_are_used = refl
-
-between : (fullness (of_reuser (turns 1 8 ∷ turns 2 9 ∷ [])) ≡ (3004, 2)) × (need_of (of_reuser (turns 1 8 ∷ turns 2 9 ∷ [])).machine.state.history 2 0 ≡ 1000)
-unfolding size_of
-between = (refl, refl)
-
-row_is_back : rows_in (of_reuser (turns 1 8 ∷ turns 2 9 ∷ turns 2 8 ∷ [])) 1 ≡ Some (replicate 4000 97) ∷ []
-unfolding size_of
-row_is_back = refl
+own_bytes_are_used = (refl, refl, refl, refl)
 
 -- ---- what a rollback needs at the most
 
@@ -140,19 +129,14 @@ of_saver words = run 1 (
     ∷ (line.Begin ∷ line.Save 1 ∷ insert_row 50 99 ∷ line.Delete (At (at 0)) ∷ line.Back 1 ∷ line.Commit ∷ [])
     ∷ (line.Begin ∷ insert_row 0 0 ∷ line.Commit ∷ []) ∷ []) words
 
-the_most_is_kept : printed (of_saver (turns 1 12 ∷ turns 2 10 ∷ turns 3 4 ∷ turns 2 11 ∷ turns 3 3 ∷ [])) ≡
-    began 1 1 ∷ inserted 1 0 ∷ inserted 1 1 ∷ committed 1 ∷ began 2 2 ∷ replies_with 2 (replies.Saved 1) ∷ inserted 2 2 ∷ replies_with 2 replies.Deleted
-    ∷ began 3 3 ∷ replies_with 3 replies.NoSpace ∷ replies_with 2 (replies.BackTo 1) ∷ committed 2 ∷ committed 3 ∷ []
+the_most_is_kept :
+    let before = of_saver (turns 1 12 ∷ turns 2 10 ∷ []) in
+    let all = of_saver (turns 1 12 ∷ turns 2 10 ∷ turns 3 4 ∷ turns 2 11 ∷ turns 3 3 ∷ []) in
+    (printed all ≡ began 1 1 ∷ inserted 1 0 ∷ inserted 1 1 ∷ committed 1 ∷ began 2 2 ∷ replies_with 2 (replies.Saved 1) ∷ inserted 2 2 ∷ replies_with 2 replies.Deleted
+    ∷ began 3 3 ∷ replies_with 3 replies.NoSpace ∷ replies_with 2 (replies.BackTo 1) ∷ committed 2 ∷ committed 3 ∷ [])
+    × (fullness before ≡ (3980, 3)) × (need_of before.machine.state.history 2 0 ≡ 100) × (fullness all ≡ (4030, 3))
 unfolding size_of
-the_most_is_kept = refl
-
-before_the_rollback : (fullness (of_saver (turns 1 12 ∷ turns 2 10 ∷ [])) ≡ (3980, 3)) × (need_of (of_saver (turns 1 12 ∷ turns 2 10 ∷ [])).machine.state.history 2 0 ≡ 100)
-unfolding size_of
-before_the_rollback = (refl, refl)
-
-after_the_rollback : fullness (of_saver (turns 1 12 ∷ turns 2 10 ∷ turns 3 4 ∷ turns 2 11 ∷ turns 3 3 ∷ [])) ≡ (4030, 3)
-unfolding size_of
-after_the_rollback = refl
+the_most_is_kept = (refl, refl, refl, refl)
 
 -- ---- the inventory
 

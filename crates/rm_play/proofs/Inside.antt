@@ -4,8 +4,7 @@ use Rattle.rm_core.specs.Names.{Effect, effect, goes_to, latched, staged, with_e
 use Rattle.rm_core.specs.Names.{appends, append_refused, rests, Moves, Machine, IsRun, Stage, idle, wants, tries, Seat, State, seat_at, Turn, skip, unname}
 use Rattle.rm_core.specs.Names.{refuse, begin, scan, latch, wait}
 use Rattle.rm_core.proofs.Names.{sym, subst, arith}
-use Rattle.rm_core.proofs.Along.{each_seat, kept_along, seat_of, setting_of}
-use Rattle.rm_core.proofs.Runs.{seat_empty}
+use Rattle.rm_core.proofs.Runs.{each_seat, kept_along, seat_of, setting_of, seat_empty}
 
 abbrev pub Within : ℕ → Stage → Type 0
 Within pages (wants row on) = on < pages

@@ -1,19 +1,19 @@
 -- Each turn brings its operation nearer to its end.
 use Rattle.rm_core.specs.Below.{◌≡◌, ℕ, ◌+◌, ◌*◌, ◌<◌, ◌≤◌, Bool, true, false, List, [], ◌∷◌, length, Format, Rid, Vacant, Row, Change, undoes, pending_of}
 use Rattle.rm_core.specs.Below.{undo_for, Op}
-use Rattle.rm_core.specs.Names.{effect, logging, latched, staged, Kept, Asks, Wants, IsSeated, May, Step, again, log_full, spent, Setting, closed}
-use Rattle.rm_core.specs.Names.{Move, turns, answered, appends, append_refused, rests, Moves, Opening, Machine, IsRun, moved, Scans, undoes_all, returns}
-use Rattle.rm_core.specs.Names.{target_of, Stage, idle, seeks, wants, tries, reads, fetches, alters, sets, settles, forces, finishes, rolls, prepares}
-use Rattle.rm_core.specs.Names.{compensates, Seat, State, seat_at, Turn, skip, unname, refuse, begin, scan, scan_last, latch, try, try_last, insert, lock}
-use Rattle.rm_core.specs.Names.{lock_alone, wait, die, fetch, miss, lack, alter, settled, settle, commit, force, finish, abort, prepared, prepare, compensate}
-use Rattle.rm_core.specs.Names.{end, save, no_target, target, back}
+use Rattle.rm_core.specs.Names.{effect, logging, latched, staged, Kept, Asks, Wants, IsSeated, May, Step, again, log_full, spent, Setting, closed, Move, turns}
+use Rattle.rm_core.specs.Names.{answered, appends, append_refused, rests, Moves, Opening, Machine, IsRun, moved, Scans, undoes_all, returns, target_of, Stage}
+use Rattle.rm_core.specs.Names.{idle, seeks, wants, tries, reads, fetches, alters, sets, settles, forces, finishes, rolls, prepares, compensates, Seat, State}
+use Rattle.rm_core.specs.Names.{seat_at, Turn, skip, unname, refuse, begin, scan, scan_last, latch, try, try_last, insert, lock, lock_alone, wait, die, fetch}
+use Rattle.rm_core.specs.Names.{miss, lack, alter, settled, settle, commit, force, finish, abort, prepared, prepare, compensate, end, save, no_target, target}
+use Rattle.rm_core.specs.Names.{back}
 use Rattle.rm_play.specs.{Takes, TakesAt, above, search_turns, left_at, turns_left, most_turns, TurnsComeNearer, Adds, Makes, OperationsEnd}
 use Rattle.rm_core.proofs.Names.{inl, inr, refl, sym, ap, subst, ◌∙◌, arith, ltb, cases_eq, cond_both, lt-ltb, last_is_of, pending_of-undo}
 use Rattle.rm_core.proofs.Names.{pending-change_other, pending-undo_other, pending-commit_other, pending-end_other}
 use Rattle.rm_core.proofs.Moves.{moved-set}
 use Rattle.rm_core.proofs.Runs.{moves_run, run_kept}
 use Rattle.rm_core.proofs.Stages.{apart_or_idle, turn_elsewhere}
-use Rattle.rm_core.proofs.Steps.{heads_at}
+use Rattle.rm_core.proofs.Turns.{heads_at}
 use Rattle.rm_play.proofs.Inside.{Within, run_inside}
 use Rattle.rm_events.specs.declared.operations.Op.TheVariants as ops
 

@@ -1,6 +1,6 @@
 use Rattle.rm_core.specs.Below.{◌+◌, newest_lsn}
 use Rattle.rm_core.proofs.Names.{arith, last_is_unfinished, undoes_are_in_order}
-use Rattle.rm_core.proofs.Along.{run_in_order}
+use Rattle.rm_core.proofs.Runs.{run_in_order}
 use Rattle.rm_core.proofs.laws.undo_has_space.Goals as goal
 
 -- what fits does not depend on the LSN of the compensation
