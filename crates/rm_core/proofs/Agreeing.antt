@@ -17,7 +17,8 @@ use Rattle.rm_core.proofs.Names.{inl, inr, cond, refl, sym, ap, subst, subst₂,
 use Rattle.rm_core.proofs.Names.{unrecorded_has_none, pending_of-undo, if_equal, if_different, pending-change, legal_is_in_order}
 use Rattle.rm_core.proofs.Keeping.{Closes}
 use Rattle.rm_core.proofs.Grants.{alone_has, released_any, joined_any, joined_more}
-use Rattle.rm_core.proofs.Moves.{Moved, moved-set}
+use Rattle.rm_core.proofs.Runs.{each_seat}
+use Rattle.rm_core.proofs.Turns.{turn_elsewhere}
 use Rattle.rm_core.proofs.Savepoints.{until, until_less, until_all, MadeAt, Saved, saved_as, saved_dropped, saved_had, Found, found}
 use Rattle.rm_core.proofs.Sizes.{next_above}
 use Rattle.rm_events.specs.declared.operations.Op.TheVariants as ops
@@ -127,23 +128,6 @@ running_still pages s new trace more seat pending keeps same running some active
       allowed = λ m base. a.allowed m (λ rid has. base rid (keeps rid has).0 ∙ (keeps rid has).1);
       stands = subst (λ (l : List Change). Stands l seat.saves (due seat.stage (ops_of trace seat.txn)) (view seat.stage).way) (sym pending) a.stands;
     })
-
--- one seat is another, and what is known of the others stays
-moved_running : (pages : ℕ) (trace more : List Event) (s new : State) (k : ℕ) (next : Seat) → Moved (seat_at s.seats) (seat_at new.seats) k next
-    → Agreeing pages trace s → Running pages new more next
-    → ((j : ℕ) → (j ≡ k → ⊥) → Running pages s trace (seat_at s.seats j) → Running pages new more (seat_at s.seats j))
-    → (j : ℕ) → Running pages new more (seat_at new.seats j)
-moved_running pages trace more s new k next moved known mine others j = elim (cases_eq j k) [
-  | inl is ↦ subst (Running pages new more) (sym (ap (seat_at new.seats) is ∙ moved.here)) mine
-  | inr not ↦ subst (Running pages new more) (sym (moved.other j not)) (others j not (known.running j))
-]
-
--- a finished transaction stays finished
-pub finished_logged : (history : History) (logged : Option Act) (txn : ℕ) → IsFinished history txn → IsFinished (logging logged history) txn
-finished_logged history None txn is = is
-finished_logged history (Some (commits f)) txn is = inr is
-finished_logged history (Some (ends f)) txn is = inr is
-finished_logged history (Some act) txn is = is
 
 -- ---- what turns ask for and do
 
@@ -413,25 +397,19 @@ module _ {format : Format} {pages : ℕ} {trace : List Event} {s : State} (k : �
 
   -- ---- all sessions after a turn
 
-  -- what it leaves of another transaction
-  spares : (turn : Turn) → IsSeated seat turn → May format pages s k seat turn → (other : ℕ) → (other ≡ txn_of seat turn → ⊥)
-      → (pending_of (left turn).history other ≡ pending_of s.history other) × KeepsLocks s (left turn) other
-  spares (insert row rid lsn) seated may other differs =
-      (if_different txn other _ _ (λ is. differs (sym is)), λ at has. (joined_more s.grants _ other at has, refl))
-  spares (alter rid slot lsn) seated may other differs = (if_different txn other _ _ (λ is. differs (sym is)), λ at has. (has, refl))
-  spares (lock rid) seated may other differs = (refl, λ at has. (joined_more s.grants _ other at has, refl))
-  spares (lock_alone rid slot) seated may other differs = (refl, λ at has. (joined_more s.grants _ other at has, refl))
-  spares (compensate aim last lsn) seated may other differs =
-      (if_different last.txn other _ _ (λ is. differs (sym is ∙ last_is_of s.history txn last may.1.0 may.1.1)), λ at has. (has, refl))
-  spares (commit lsn) seated may other differs =
+  -- another transaction keeps its locks
+  spares : (turn : Turn) → IsSeated seat turn → May format pages s k seat turn → (other : ℕ) → (other ≡ txn → ⊥) → KeepsLocks s (left turn) other
+  spares (insert row rid lsn) seated may other differs at has = (joined_more s.grants _ other at has, refl)
+  spares (lock rid) seated may other differs at has = (joined_more s.grants _ other at has, refl)
+  spares (lock_alone rid slot) seated may other differs at has = (joined_more s.grants _ other at has, refl)
+  spares (commit lsn) seated may other differs at has =
       let unfinished : IsFinished s.history txn → ⊥ = (kept.seated k seated).active (λ over. subst IsOver may.0 over) in
-      let free : (at : Rid) → HasGrant s.grants other at → IsChanged pending at → ⊥ =
-      λ at has changed. differs (sym (kept.apart txn other at (kept.granted txn at (changed_has_change s.history txn at changed) unfinished) has)) in
-      (if_different txn other _ _ (λ is. differs (sym is)), λ at has. (has, applied_free (rows_of_log s.history) at pending (free at has)))
-  spares finish seated may other differs = (refl, λ at has. (released_any s.grants txn other at differs has, refl))
-  spares (end outcome lsn) seated may other differs =
-      (if_different txn other _ _ (λ is. differs (sym is)), λ at has. (released_any s.grants txn other at differs has, refl))
-  spares turn seated may other differs = (refl, λ at has. (has, refl))
+      let free : IsChanged pending at → ⊥ = λ changed.
+      differs (sym (kept.apart txn other at (kept.granted txn at (changed_has_change s.history txn at changed) unfinished) has)) in
+      (has, applied_free (rows_of_log s.history) at pending free)
+  spares finish seated may other differs at has = (released_any s.grants txn other at differs has, refl)
+  spares (end outcome lsn) seated may other differs at has = (released_any s.grants txn other at differs has, refl)
+  spares turn seated may other differs at has = (has, refl)
 
   -- its transaction's id is below the next one, and no other session's
   ids : (turn : Turn) → May format pages s k seat turn → (txn_of seat turn < (left turn).next) × (s.next ≤ (left turn).next)
@@ -448,11 +426,12 @@ module _ {format : Format} {pages : ℕ} {trace : List Event} {s : State} (k : �
   )
 
   -- the transactions in the order are finished
-  ordered : (turn : Turn) → IsSeated seat turn → (other : ℕ) → IsAmong (order_of (event_of pages s k turn ∷ trace)) other
+  ordered : (turn : Turn) → IsSeated seat turn → May format pages s k seat turn → (other : ℕ) → IsAmong (order_of (event_of pages s k turn ∷ trace)) other
       → IsFinished (left turn).history other × (other ≡ 0 → ⊥)
-  ordered (commit lsn) seated other (inl is) = (inl is, λ zero. seated (is ∙ zero))
-  ordered (commit lsn) seated other (inr among) = (inr (known.over other among).0, (known.over other among).1)
-  ordered turn seated other among = (finished_logged s.history (effect format s seat turn).logged other (known.over other among).0, (known.over other among).1)
+  ordered (commit lsn) seated may other (inl is) = (inl is, λ zero. seated (is ∙ zero))
+  ordered (commit lsn) seated may other (inr among) = (inr (known.over other among).0, (known.over other among).1)
+  ordered turn seated may other among =
+      ((turn_elsewhere format pages s k seat turn may).still other (known.over other among).0, (known.over other among).1)
 
   -- So after each turn all is known again.
   pub turn_agrees : (turn : Turn) → k < length s.seats → IsSeated seat turn → May format pages s k seat turn
@@ -461,14 +440,13 @@ module _ {format : Format} {pages : ℕ} {trace : List Event} {s : State} (k : �
       let e : Event = event_of pages s k turn in
       let id = ids turn may in
       record {
-        running = moved_running pages trace (e ∷ trace) s (left turn) k (next turn) (moved-set s.seats k (next turn) among) known (own turn seated may).agrees
-            (λ j differs running some.
+        running = each_seat (λ j. Running pages (left turn) (e ∷ trace)) s.seats k (next turn) among (own turn seated may).agrees (λ j differs some.
             let other : Seat = seat_at s.seats j in
-            let not : other.txn ≡ e.txn → ⊥ = id.2 j differs some in
-            let spared = spares turn seated may other.txn not in
-            running_still pages s (left turn) trace (e ∷ trace) other spared.0 spared.1 (if_different e.txn other.txn _ _ (λ is. not (sym is))) running some);
+            let not : other.txn ≡ txn → ⊥ = λ is. differs (sym (kept.single k j some (sym is))) in
+            running_still pages s (left turn) trace (e ∷ trace) other ((turn_elsewhere format pages s k seat turn may).pending other.txn not)
+            (spares turn seated may other.txn not) (if_different e.txn other.txn _ _ (λ is. id.2 j differs some (sym is))) (known.running j) some);
         fresh = λ other above. if_different e.txn other _ _ (λ is. omega (arith, id.0, above, is)) ∙ known.fresh other (omega (arith, id.1, above));
-        over = ordered turn seated;
+        over = ordered turn seated may;
       }
 
   -- ---- a closed operation
@@ -481,8 +459,8 @@ module _ {format : Format} {pages : ℕ} {trace : List Event} {s : State} (k : �
 
   pub closed_agrees : k < length s.seats → Closes seat.stage → Agreeing pages trace (closed s k)
   closed_agrees among closes = record {
-    running = moved_running pages trace trace s (closed s k) k (staged seat idle) (moved-set s.seats k (staged seat idle) among) known
-        (λ some active. (closed_own seat.stage refl closes).agreed some) (λ j not running. running);
+    running = each_seat (λ j. Running pages (closed s k) trace) s.seats k (staged seat idle) among
+        (λ some active. (closed_own seat.stage refl closes).agreed some) (λ j not. known.running j);
     fresh = known.fresh;
     over = known.over;
   }

@@ -15,7 +15,7 @@ use Rattle.rm_core.proofs.Runs.{setting_of, seat_of, turned, Makes, run_in_order
 use Rattle.rm_core.proofs.Moves.{moved-set}
 use Rattle.rm_core.proofs.Sizes.{commit_size, end_size, undo_size, next_within}
 use Rattle.rm_core.proofs.Keeping.{all_owed}
-use Rattle.rm_core.proofs.Stages.{Any, turn_elsewhere}
+use Rattle.rm_core.proofs.Turns.{Any, turn_elsewhere}
 
 -- ---- sums over sessions, and over what is to be undone
 
@@ -211,7 +211,7 @@ all_seated : (m : Machine) → IsRun m → AllSeated m.state
 all_seated = kept_along (λ o trace s. AllSeated s) (record {
   base = λ o is txn has unfinished. absurd (unfinished (is.finished txn has));
   turn = turn_seated;
-  close = λ m k run all among txn has unfinished.
+  close = λ m k run all among closes txn has unfinished.
       let old = all txn has unfinished in
       (old.0, seat_stays m.state.seats k (staged (seat_of m k) idle) txn among (λ mine. mine) old.1);
   append = λ m l run all moves. all;
@@ -354,7 +354,7 @@ run_prefixes : (m : Machine) → IsRun m → Prefixes m.opening m.state.history
 run_prefixes = kept_along (λ o trace s. Prefixes o s.history) (record {
   base = λ o is newer more same some. absurd (none_past newer more o.history same some);
   turn = turn_prefixes;
-  close = λ m k run all among. all;
+  close = λ m k run all among closes. all;
   append = λ m l run all moves. one_more m.opening (Some (marks (lists l))) m.state.history all
       (omega (arith, moves.1, all_owed m.state, cost_claimed m run, costs (setting_of m).format (marks (lists l) ∷ m.state.history)));
   rest = λ m actor seen run all may. all;

@@ -6,7 +6,7 @@ use Rattle.rm_core.specs.Names.{answered, appends, append_refused, rests, Moves,
 use Rattle.rm_core.specs.Names.{Seat, State, seat_at, empty_seat, after, event_of, closed, MayRest, HasRoomFor, traced, Turn}
 use Rattle.rm_core.proofs.Names.{inl, refl, sym, ap, subst, ◌∙◌, arith, change_has_record, sum_below-zero, sum_below-same, legal_is_in_order, fits_in_order}
 use Rattle.rm_core.proofs.Names.{entries_follow, inr, set, cases_eq}
-use Rattle.rm_core.proofs.Keeping.{is_closed, refused_closes, Known, turn_known, all_owed}
+use Rattle.rm_core.proofs.Keeping.{Closes, is_closed, refused_closes, Known, turn_known, all_owed}
 use Rattle.rm_core.proofs.Sizes.{next_above}
 use Rattle.rm_core.proofs.Moves.{Moved, moved-set}
 use Rattle.rm_events.specs.declared.events.Seen.TheVariants as sees
@@ -144,7 +144,8 @@ pub record IsKept (P : Opening → List Event → State → Type 0) : Type 0 whe
   pub base : (o : Opening) → IsOpening o → P o [] (opened o)
   pub turn : (m : Machine) (k : ℕ) (turn : Turn) → IsRun m → Of P m → Makes m k turn
       → P m.opening (event_of (setting_of m).pages m.state k turn ∷ m.trace) (turned m k turn)
-  pub close : (m : Machine) (k : ℕ) → IsRun m → Of P m → k < length m.state.seats → P m.opening m.trace (closed m.state k)
+  pub close : (m : Machine) (k : ℕ) → IsRun m → Of P m → k < length m.state.seats → Closes (seat_of m k).stage
+      → P m.opening m.trace (closed m.state k)
   pub append : (m : Machine) (l : Listing) → IsRun m → Of P m → Moves (setting_of m) m.state (appends l) (appended m.state l)
       → P m.opening (append_event l ∷ m.trace) (appended m.state l)
   pub rest : (m : Machine) (actor : Actor) (seen : Seen) → IsRun m → Of P m → MayRest m.state actor seen → P m.opening (rest_event actor seen ∷ m.trace) m.state
@@ -157,7 +158,8 @@ kept_move P kept m new (turns k turn) run of moves =
       subst (HasRoomFor (setting_of m).limit m.state turn) moves.0.new_is moves.1,
     ))
 kept_move P kept m new (answered k (again by)) run of moves = subst (P m.opening m.trace) (sym moves.1.1) of
-kept_move P kept m new (answered k (log_full at)) run of moves = subst (P m.opening m.trace) (sym moves.1.1) (kept.close m k run of moves.0)
+kept_move P kept m new (answered k (log_full at)) run of moves = subst (P m.opening m.trace) (sym moves.1.1)
+    (kept.close m k run of moves.0 (refused_closes (setting_of m) m.state k at (run_kept m run) moves.1.0))
 kept_move P kept m new (answered k (spent last)) run of moves = subst (P m.opening m.trace) (sym moves.1.2) of
 kept_move P kept m new (appends l) run of moves =
     subst (P m.opening (append_event l ∷ m.trace)) (sym moves.2) (kept.append m l run of (moves.0, moves.1, refl))

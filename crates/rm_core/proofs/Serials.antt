@@ -1,14 +1,14 @@
 -- Every run is serial: the committed transactions one after the other, in the order of their commits, and each unfinished one after them.
-use Rattle.rm_core.specs.Below.{◌≡◌, ◌⊎◌, ℕ, zero, suc, ◌+◌, ◌-◌, ◌<◌, List, [], ◌∷◌, ◌++◌, length, map, drop, Option, Some, None, Format, Rid, Rows, Act}
+use Rattle.rm_core.specs.Below.{IsFinished, ◌≡◌, ◌⊎◌, ℕ, zero, suc, ◌+◌, ◌-◌, ◌<◌, List, [], ◌∷◌, ◌++◌, length, map, drop, Option, Some, None, Format, Rid, Rows, Act}
 use Rattle.rm_core.specs.Below.{Finish, History, commits, lists, marks, pending_of, applied, rows_of_log, Session, Flush, Clean, Checkpoint, Copy, Actor, Seen}
 use Rattle.rm_core.specs.Names.{logging, effect, after, Event, event_of, RunsAreSerial, May, IsSeated, Step, Answer, again, log_full, spent, Answers, MayRest}
 use Rattle.rm_core.specs.Names.{Move, turns, answered, appends, append_refused, rests, Moves, single_after, Allowed, rows_through, AllAllowed, onto, ops_of}
 use Rattle.rm_core.specs.Names.{ordered_with, order_of, IsAmong, commits_in, Outcome, committed, Opening, Machine, IsRun, moved, idle, Seat, State, seat_at}
 use Rattle.rm_core.specs.Names.{Turn, commit}
 use Rattle.rm_core.proofs.Names.{inl, inr, eqb, refl, sym, ap, subst, subst₂, ◌∙◌, arith, one-add, length-append, cases_eq, cond_both, if_equal, if_different}
-use Rattle.rm_core.proofs.Agreeing.{applied-same, view, Agreeing, IsQuiet, KeepsLocks, running_still, finished_logged, here, own, turn_agrees, closed_agrees}
-use Rattle.rm_core.proofs.Keeping.{Closes, refused_closes}
-use Rattle.rm_core.proofs.Runs.{along, run_kept, txn_none}
+use Rattle.rm_core.proofs.Agreeing.{applied-same, view, Agreeing, IsQuiet, KeepsLocks, running_still, here, own, turn_agrees, closed_agrees}
+use Rattle.rm_core.proofs.Runs.{kept_along, setting_of, run_kept, txn_none}
+use Rattle.rm_core.proofs.Stages.{rest_is_quiet}
 use Rattle.rm_events.specs.declared.events.Seen.TheVariants as sees
 
 -- ---- the order of commits
@@ -137,15 +137,6 @@ allowed_told : (pages : ℕ) (rows : Rows) (more : Option Outcome) (told : List 
 allowed_told pages rows None told allowed = allowed
 allowed_told pages rows (Some outcome) told allowed = allowed.0
 
--- the turns of the background commit nothing
-rests_order : (s : State) (actor : Actor) (seen : Seen) → MayRest s actor seen → (order : List ℕ) → ordered_with seen 0 order ≡ order
-rests_order s Flush (sees.Commit lsn) may order = absurd may
-rests_order s Clean (sees.Commit lsn) may order = absurd may
-rests_order s Checkpoint (sees.Commit lsn) may order = absurd may
-rests_order s Copy (sees.Commit lsn) may order = absurd may
-rests_order s (Session n) (sees.Commit lsn) may order = absurd may
-rests_order s actor seen may order = refl
-
 module _ (m : Machine) (run : IsRun m) (it : Serial m.opening m.trace m.state) where
   abbrev format : Format
   format = m.opening.setting.format
@@ -176,8 +167,9 @@ module _ (m : Machine) (run : IsRun m) (it : Serial m.opening m.trace m.state) w
   -- an event of the background, with no record or with a checkpoint's
   background : (actor : Actor) (seen : Seen) (logged : Option Act) → ordered_with seen 0 (order_of m.trace) ≡ order_of m.trace → IsNoCommit logged
       → ((txn : ℕ) → pending_of (logging logged s.history) txn ≡ pending_of s.history txn) → rows_of_log (logging logged s.history) ≡ rows_of_log s.history
+      → ((txn : ℕ) → IsFinished s.history txn → IsFinished (logging logged s.history) txn)
       → Serial m.opening (record { actor = actor; txn = 0; seen = seen; done = None } ∷ m.trace) (record s { history = logging logged s.history })
-  background actor seen logged same quiet pending rows =
+  background actor seen logged same quiet pending rows finished =
       let new : State = record s { history = logging logged s.history } in
       let trace : List Event = record { actor = actor; txn = 0; seen = seen; done = None } ∷ m.trace in
       let told : (txn : ℕ) → ops_of trace txn ≡ ops_of m.trace txn =
@@ -192,40 +184,26 @@ module _ (m : Machine) (run : IsRun m) (it : Serial m.opening m.trace m.state) w
           fresh = λ txn above. told txn ∙ it.1.fresh txn above;
           over = λ txn among.
               let was = it.1.over txn (subst (λ (order : List ℕ). IsAmong order txn) same among) in
-              (finished_logged s.history logged txn was.0, was.1);
+              (finished txn was.0, was.1);
         },
       )
-
-  answer_serial : (k : ℕ) (answer : Answer) (new : State) → k < length s.seats → Answers m.opening.setting s k answer new → Serial m.opening m.trace new
-  answer_serial k (again by) new among is = subst (Serial m.opening m.trace) (sym is.1) it
-  answer_serial k (log_full at) new among is =
-      let closes : Closes (seat_at s.seats k).stage = refused_closes m.opening.setting s k at (run_kept m run) is.0 in
-      subst (Serial m.opening m.trace) (sym is.1) (it.0, closed_agrees k (run_kept m run) it.1 among closes)
-  answer_serial k (spent last) new among is = subst (Serial m.opening m.trace) (sym is.2) it
-
-  move_serial : (move : Move) (new : State) → Moves m.opening.setting s move new → Serial m.opening (moved m move new).trace new
-  move_serial (turns k turn) new moves =
-      let step : Step format pages s k turn new = moves.0 in
-      subst (Serial m.opening (event_of pages s k turn ∷ m.trace)) (sym step.new_is)
-      (ordered k turn step.seated step.may, turn_agrees k (run_kept m run) it.1 turn step.among step.seated step.may)
-  move_serial (answered k answer) new moves = answer_serial k answer new moves.0 moves.1
-  move_serial (appends l) new moves =
-      subst (Serial m.opening (moved m (appends l) new).trace) (sym moves.2)
-      (background Checkpoint (sees.Append l.lsn) (Some (marks (lists l))) refl tt (λ txn. refl) refl)
-  move_serial (append_refused at) new moves = subst (Serial m.opening m.trace) (sym moves.1) it
-  move_serial (rests actor seen) new moves =
-      subst (Serial m.opening (moved m (rests actor seen) new).trace) (sym moves.1)
-      (background actor seen None (rests_order s actor seen moves.0 (order_of m.trace)) tt (λ txn. refl) refl)
 
 -- ---- the law
 
 run_serial : (m : Machine) → IsRun m → Serial m.opening m.trace m.state
-run_serial = along (λ (m : Machine). Serial m.opening m.trace m.state)
-    (λ o is. (
-      record { committed = tt; rows = λ rid. refl; count = omega arith; prefixes = prefixes_start o.history },
-      record { running = λ k some active. absurd (some (txn_none o.sessions k)); fresh = λ txn above. refl; over = λ txn among. absurd among },
-    ))
-    (λ m move new run it moves. move_serial m run it move new moves)
+run_serial = kept_along Serial (record {
+  base = λ o is. (
+    record { committed = tt; rows = λ rid. refl; count = omega arith; prefixes = prefixes_start o.history },
+    record { running = λ k some active. absurd (some (txn_none o.sessions k)); fresh = λ txn above. refl; over = λ txn among. absurd among },
+  );
+  turn = λ m k turn run it moves.
+      (ordered m run it k turn moves.0.seated moves.0.may, turn_agrees k (run_kept m run) it.1 turn moves.0.among moves.0.seated moves.0.may);
+  close = λ m k run it among closes. (it.0, closed_agrees k (run_kept m run) it.1 among closes);
+  append = λ m l run it moves. background m run it Checkpoint (sees.Append l.lsn) (Some (marks (lists l))) refl tt (λ txn. refl) refl (λ txn is. is);
+  rest = λ m actor seen run it may.
+      background m run it actor seen None ((rest_is_quiet {pages = (setting_of m).pages} m.state actor seen may).order (order_of m.trace)) tt (λ txn. refl) refl
+      (λ txn is. is);
+})
 
 pub runs_are_serial : RunsAreSerial
 runs_are_serial m run =

@@ -11,6 +11,7 @@ use Rattle.rm_core.specs.Names.{force, finish, prepared, prepare, compensate, en
 use Rattle.rm_core.proofs.Names.{inl, inr, refl, sym, ap, subst, ◌∙◌, arith, cases_eq, cases_lt, eq-eqb, ne_eqb, last_is_of, pending-change, legal_is_in_order}
 use Rattle.rm_core.proofs.Names.{Elsewhere, elsewhere-none, elsewhere-change, elsewhere-undo, elsewhere-enter, elsewhere-commit, elsewhere-end}
 use Rattle.rm_core.proofs.Runs.{setting_of, seat_of, append_event, rest_event, kept_along, each_seat, seat_empty, run_kept}
+use Rattle.rm_core.proofs.Turns.{turn_elsewhere}
 use Rattle.rm_core.proofs.Sizes.{size_some}
 use Rattle.rm_events.specs.declared.events.Seen.TheVariants as sees
 
@@ -46,9 +47,6 @@ Says seens trace history txn other = Unit {0}
 
 -- ---- the turns of other sessions
 
-abbrev pub Any : ℕ → Type 0
-Any page = Unit {0}
-
 pub among_more : (seen : Seen) (named : ℕ) (order : List ℕ) (txn : ℕ) → IsAmong order txn → IsAmong (ordered_with seen named order) txn
 among_more (sees.Commit lsn) named order txn is = inr is
 among_more other named order txn is = is
@@ -74,51 +72,7 @@ still_says seens trace e logged history txn forces pending says =
 still_says seens trace e logged history txn finishes pending says = durable_more logged history e trace txn says
 still_says seens trace e logged history txn other pending says = says
 
--- a turn's record is of its transaction
-pub turn_elsewhere : (format : Format) (pages : ℕ) (s : State) (k : ℕ) (seat : Seat) (turn : Turn) → May format pages s k seat turn
-    → Elsewhere s.history (after format s k seat turn).history seat.txn Any
-turn_elsewhere format pages s k seat (insert row rid lsn) may =
-    elsewhere-change (change_of s.history seat.txn rid Vacant (Row row) lsn) s.history seat.txn Any refl tt
-turn_elsewhere format pages s k seat (alter rid slot lsn) may = elsewhere-change (setting s.history seat.txn rid slot lsn) s.history seat.txn Any refl tt
-turn_elsewhere format pages s k seat (settle outcome page lsn) may =
-    elsewhere-enter (entry_now format s.history seat.txn page lsn) s.history seat.txn Any refl tt
-turn_elsewhere format pages s k seat (commit lsn) may = elsewhere-commit (record { lsn = lsn; txn = seat.txn }) s.history Any
-turn_elsewhere format pages s k seat (prepare aim last lsn) may =
-    elsewhere-enter (entry_for format lsn s.history last) s.history seat.txn Any (last_is_of s.history seat.txn last may.next.0 may.next.1) tt
-turn_elsewhere format pages s k seat (compensate aim last lsn) may =
-    elsewhere-undo (undo_for lsn last) s.history seat.txn Any (last_is_of s.history seat.txn last may.1.0 may.1.1) tt
-turn_elsewhere format pages s k seat (end outcome lsn) may = elsewhere-end (record { lsn = lsn; txn = seat.txn }) s.history Any
-turn_elsewhere format pages s k seat other may = elsewhere-none s.history seat.txn Any
-
 -- ---- the session's own turns
-
--- a scan handles what it passes
-scan_says : (stage : Stage) (row : List ℕ) (from to : ℕ) (found : Bool) (seens : List Seen) (trace : List Event) (history : History) (txn : ℕ)
-    → Scans stage row from → Says seens trace history txn stage → AllHandled (sees.Scan from to found ∷ seens) to
-scan_says idle row from to found seens trace history txn scans says page below = inl (omega (arith, scans), below)
-scan_says (seeks sought on) row from to found seens trace history txn scans says page below = elim (cases_lt page from) [
-  | inl before ↦ inr (λ none. absurd (omega (arith, none, says.1, scans.1)), says.0 page (omega (arith, before, scans.1)))
-  | inr past ↦ inl (past, below)
-]
-scan_says other row from to found seens trace history txn scans says page below = absurd scans
-
--- a part of the file ends after its start
-part_some : (pages from to : ℕ) → to ≡ part_end pages from → to < pages → 0 < to
-part_some pages from to is less = elim (cases_lt pages ((from / BLOCK_PAGES + 1) * BLOCK_PAGES)) [
-  | inl first ↦ omega (arith, is, less, first)
-  | inr second ↦ omega (arith, is, less, second)
-]
-
-try_says : (s : State) (seat : Seat) (on slot : ℕ) (seens : List Seen) → AllHandled seens on → AllHandled (tried_of s seat on slot ∷ seens) (on + 1)
-try_says s seat on slot seens says page below = elim (cases_lt page on) [ inl before ↦ inr (says page before) | inr past ↦ inl (omega (arith, past, below)) ]
-
-latch_says : (s : State) (seat : Seat) (stage : Stage) (page : ℕ) (seens : List Seen) (trace : List Event) (e : Event) (history : History) (txn : ℕ)
-    → Wants s seat stage page → Says seens trace history txn stage → Says (sees.Latch page ∷ seens) (e ∷ trace) history txn (latched stage page)
-latch_says s seat (wants row on) page seens trace e history txn is says = λ one below. says one (omega (arith, below, is))
-latch_says s seat (reads rid) page seens trace e history txn is says = tt
-latch_says s seat (alters rid slot) page seens trace e history txn is says = tt
-latch_says s seat (rolls aim) page seens trace e history txn is says = says
-latch_says s seat other page seens trace e history txn is says = absurd is
 
 -- a record of the log stands before its end
 logged_upto : (history : History) (act : Act) → IsInOrder history → IsLogged history act → lsn_of act ≤ newest_lsn history
@@ -134,37 +88,67 @@ logged_below (newest ∷ before) act ordered is = omega (arith, logged_upto (new
 abbrev pub event_at : ℕ → State → ℕ → Seat → Turn → Event
 event_at pages s k seat turn = record { actor = Session (suc k); txn = txn_of seat turn; seen = seen_of pages s seat turn; done = outcome_of turn }
 
-own_says : (format : Format) (pages : ℕ) (s : State) (k : ℕ) (seat : Seat) (turn : Turn) (seens : List Seen) (trace : List Event) → IsInOrder s.history
-    → May format pages s k seat turn → Says seens trace s.history seat.txn seat.stage
-    → Says (seen_of pages s seat turn ∷ seens) (event_at pages s k seat turn ∷ trace) (after format s k seat turn).history
-    (effect format s seat turn).seat.txn (effect format s seat turn).seat.stage
-own_says format pages s k seat (skip op) seens trace ordered may says = rw may.0 tt
-own_says format pages s k seat unname seens trace ordered may says = rw may tt
-own_says format pages s k seat (refuse op rid) seens trace ordered may says = rw may.0 tt
-own_says format pages s k seat (wait op rid alone holder) seens trace ordered may says = rw may.0.at tt
-own_says format pages s k seat (scan row from to true) seens trace ordered may says =
-    scan_says seat.stage row from to true seens trace s.history seat.txn may.at says
-own_says format pages s k seat (scan row from to false) seens trace ordered may says =
-    (scan_says seat.stage row from to false seens trace s.history seat.txn may.at says, part_some pages from to may.stops.0 may.stops.1)
-own_says format pages s k seat (latch page) seens trace ordered may says =
-    latch_says s seat seat.stage page seens trace (event_at pages s k seat (latch page)) s.history seat.txn may.wants_it says
-own_says format pages s k seat (try row page slot) seens trace ordered may says = (try_says s seat page slot seens (rw may.0.at at says), omega arith)
-own_says format pages s k seat (insert row rid lsn) seens trace ordered may says =
-    let c : Change = change_of s.history seat.txn rid Vacant (Row row) lsn in
-    (tt, (c, (pending_of s.history seat.txn, pending-change c s.history), (refl, refl)))
-own_says format pages s k seat (alter rid slot lsn) seens trace ordered may says =
-    let c : Change = setting s.history seat.txn rid slot lsn in
-    (tt, (c, (pending_of s.history seat.txn, pending-change c s.history), (refl, refl)))
-own_says format pages s k seat (commit lsn) seens trace ordered may says = (inl refl, (lsn, inl refl))
-own_says format pages s k seat (force durable) seens trace ordered may says =
-    let known = rw may.0 at says in
-    let act : Act = commits (record { lsn = known.1.0; txn = seat.txn }) in
-    let below : known.1.0 < durable = omega (arith, may.1, logged_below s.history act ordered known.1.1) in
-    record { lsn = known.1.0; durable = durable; logged = known.1.1; told = inl (refl, known.0); below = below }
-own_says format pages s k seat (prepared aim last) seens trace ordered may says = rw may.0 at says
-own_says format pages s k seat (prepare aim last lsn) seens trace ordered may says = rw may.at at says
-own_says format pages s k seat (compensate aim last lsn) seens trace ordered may says = rw may.0 at says
-own_says format pages s k seat other seens trace ordered may says = tt
+-- a part of the file ends after its start
+part_some : (pages from to : ℕ) → to ≡ part_end pages from → to < pages → 0 < to
+part_some pages from to is less = elim (cases_lt pages ((from / BLOCK_PAGES + 1) * BLOCK_PAGES)) [
+  | inl first ↦ omega (arith, is, less, first)
+  | inr second ↦ omega (arith, is, less, second)
+]
+
+module _ (format : Format) (pages : ℕ) (s : State) (k : ℕ) (seat : Seat) (seens : List Seen) (trace : List Event) where
+  -- what its stage says before a turn, and what is said after it
+  abbrev Said : Stage → Type 0
+  Said stage = Says seens trace s.history seat.txn stage
+
+  abbrev SaysThen : Turn → Type 0
+  SaysThen turn =
+      Says (seen_of pages s seat turn ∷ seens) (event_at pages s k seat turn ∷ trace) (after format s k seat turn).history (effect format s seat turn).seat.txn
+      (effect format s seat turn).seat.stage
+
+  -- a scan handles what it passes
+  scan_says : (stage : Stage) (row : List ℕ) (from to : ℕ) (found : Bool) → Scans stage row from → Said stage → AllHandled (sees.Scan from to found ∷ seens) to
+  scan_says idle row from to found scans says page below = inl (omega (arith, scans), below)
+  scan_says (seeks sought on) row from to found scans says page below = elim (cases_lt page from) [
+    | inl before ↦ inr (λ none. absurd (omega (arith, none, says.1, scans.1)), says.0 page (omega (arith, before, scans.1)))
+    | inr past ↦ inl (past, below)
+  ]
+  scan_says other row from to found scans says page below = absurd scans
+
+  try_says : (on slot : ℕ) → AllHandled seens on → AllHandled (tried_of s seat on slot ∷ seens) (on + 1)
+  try_says on slot says page below = elim (cases_lt page on) [ inl before ↦ inr (says page before) | inr past ↦ inl (omega (arith, past, below)) ]
+
+  latch_says : (stage : Stage) (page : ℕ) (e : Event) → Wants s seat stage page → Said stage
+      → Says (sees.Latch page ∷ seens) (e ∷ trace) s.history seat.txn (latched stage page)
+  latch_says (wants row on) page e is says = λ one below. says one (omega (arith, below, is))
+  latch_says (reads rid) page e is says = tt
+  latch_says (alters rid slot) page e is says = tt
+  latch_says (rolls aim) page e is says = says
+  latch_says other page e is says = absurd is
+
+  own_says : (turn : Turn) → IsInOrder s.history → May format pages s k seat turn → Said seat.stage → SaysThen turn
+  own_says (skip op) ordered may says = rw may.0 tt
+  own_says unname ordered may says = rw may tt
+  own_says (refuse op rid) ordered may says = rw may.0 tt
+  own_says (wait op rid alone holder) ordered may says = rw may.0.at tt
+  own_says (scan row from to true) ordered may says = scan_says seat.stage row from to true may.at says
+  own_says (scan row from to false) ordered may says =
+      (scan_says seat.stage row from to false may.at says, part_some pages from to may.stops.0 may.stops.1)
+  own_says (latch page) ordered may says = latch_says seat.stage page (event_at pages s k seat (latch page)) may.wants_it says
+  own_says (try row page slot) ordered may says = (try_says page slot (rw may.0.at at says), omega arith)
+  own_says (insert row rid lsn) ordered may says =
+      let c : Change = change_of s.history seat.txn rid Vacant (Row row) lsn in (tt, (c, (pending_of s.history seat.txn, pending-change c s.history), (refl, refl)))
+  own_says (alter rid slot lsn) ordered may says =
+      let c : Change = setting s.history seat.txn rid slot lsn in (tt, (c, (pending_of s.history seat.txn, pending-change c s.history), (refl, refl)))
+  own_says (commit lsn) ordered may says = (inl refl, (lsn, inl refl))
+  own_says (force durable) ordered may says =
+      let known = rw may.0 at says in
+      let act : Act = commits (record { lsn = known.1.0; txn = seat.txn }) in
+      let below : known.1.0 < durable = omega (arith, may.1, logged_below s.history act ordered known.1.1) in
+      record { lsn = known.1.0; durable = durable; logged = known.1.1; told = inl (refl, known.0); below = below }
+  own_says (prepared aim last) ordered may says = rw may.0 at says
+  own_says (prepare aim last lsn) ordered may says = rw may.at at says
+  own_says (compensate aim last lsn) ordered may says = rw may.0 at says
+  own_says other ordered may says = tt
 
 -- ---- along a run
 
@@ -189,7 +173,7 @@ turn_says format pages trace s k turn kept among may all =
     let e : Event = event_of pages s k turn in
     let new : Effect = effect format s was turn in
     each_seat (SaysOf (e ∷ trace) (logging new.logged s.history)) s.seats k new.seat among
-    (rw (eq-eqb k k refl) (own_says format pages s k was turn (seens_of trace k) trace (legal_is_in_order format s.history kept.legal) may (all k)))
+    (rw (eq-eqb k k refl) (own_says format pages s k was (seens_of trace k) trace turn (legal_is_in_order format s.history kept.legal) may (all k)))
     (λ j not. rw (ne_eqb k j (λ is. not (sym is))) (elim (apart_or_idle format s k j kept not) [
       | inl at ↦ rw at tt
       | inr differs ↦ still_says (seens_of trace j) trace e new.logged s.history (seat_at s.seats j).txn (seat_at s.seats j).stage
@@ -203,19 +187,20 @@ pub record IsQuiet (pages : ℕ) (actor : Actor) (seen : Seen) : Type 0 where
   pub none : lsn_in seen ≡ 0
   pub change : (history : History) → TellsChange history 0 seen None
   pub last : EndsSearch pages seen → ⊥
+  pub order : (order : List ℕ) → ordered_with seen 0 order ≡ order
 
-pub rest_is_quiet : (pages : ℕ) (s : State) (actor : Actor) (seen : Seen) → MayRest s actor seen → IsQuiet pages actor seen
-rest_is_quiet pages s Flush (sees.Force at) may = record { actors = λ k is. cc; seens = λ k a b. refl; none = refl; change = λ h. tt; last = λ is. is }
-rest_is_quiet pages s Clean (sees.Clean block) may = record { actors = λ k is. cc; seens = λ k a b. refl; none = refl; change = λ h. tt; last = λ is. is }
-rest_is_quiet pages s Checkpoint (sees.Sync area) may = record { actors = λ k is. cc; seens = λ k a b. refl; none = refl; change = λ h. tt; last = λ is. is }
-rest_is_quiet pages s Checkpoint (sees.Force at) may = record { actors = λ k is. cc; seens = λ k a b. refl; none = refl; change = λ h. tt; last = λ is. is }
-rest_is_quiet pages s Checkpoint sees.Point may = record { actors = λ k is. cc; seens = λ k a b. refl; none = refl; change = λ h. tt; last = λ is. is }
-rest_is_quiet pages s Copy (sees.CopyStart start) may = record { actors = λ k is. cc; seens = λ k a b. refl; none = refl; change = λ h. tt; last = λ is. is }
-rest_is_quiet pages s Copy (sees.CopyBlock block) may = record { actors = λ k is. cc; seens = λ k a b. refl; none = refl; change = λ h. tt; last = λ is. is }
-rest_is_quiet pages s Copy (sees.Force at) may = record { actors = λ k is. cc; seens = λ k a b. refl; none = refl; change = λ h. tt; last = λ is. is }
-rest_is_quiet pages s Copy (sees.Sync area) may = record { actors = λ k is. cc; seens = λ k a b. refl; none = refl; change = λ h. tt; last = λ is. is }
-rest_is_quiet pages s Copy (sees.CopyPoint half) may = record { actors = λ k is. cc; seens = λ k a b. refl; none = refl; change = λ h. tt; last = λ is. is }
-rest_is_quiet pages s actor seen may = absurd may
+pub rest_is_quiet : {pages : ℕ} (s : State) (actor : Actor) (seen : Seen) → MayRest s actor seen → IsQuiet pages actor seen
+rest_is_quiet s Flush (sees.Force at) may = record { actors = λ k is. cc; seens = λ k a b. refl; none = refl; change = λ h. tt; last = λ is. is; order = λ o. refl }
+rest_is_quiet s Clean (sees.Clean block) may = record { actors = λ k is. cc; seens = λ k a b. refl; none = refl; change = λ h. tt; last = λ is. is; order = λ o. refl }
+rest_is_quiet s Checkpoint (sees.Sync area) may = record { actors = λ k is. cc; seens = λ k a b. refl; none = refl; change = λ h. tt; last = λ is. is; order = λ o. refl }
+rest_is_quiet s Checkpoint (sees.Force at) may = record { actors = λ k is. cc; seens = λ k a b. refl; none = refl; change = λ h. tt; last = λ is. is; order = λ o. refl }
+rest_is_quiet s Checkpoint sees.Point may = record { actors = λ k is. cc; seens = λ k a b. refl; none = refl; change = λ h. tt; last = λ is. is; order = λ o. refl }
+rest_is_quiet s Copy (sees.CopyStart start) may = record { actors = λ k is. cc; seens = λ k a b. refl; none = refl; change = λ h. tt; last = λ is. is; order = λ o. refl }
+rest_is_quiet s Copy (sees.CopyBlock block) may = record { actors = λ k is. cc; seens = λ k a b. refl; none = refl; change = λ h. tt; last = λ is. is; order = λ o. refl }
+rest_is_quiet s Copy (sees.Force at) may = record { actors = λ k is. cc; seens = λ k a b. refl; none = refl; change = λ h. tt; last = λ is. is; order = λ o. refl }
+rest_is_quiet s Copy (sees.Sync area) may = record { actors = λ k is. cc; seens = λ k a b. refl; none = refl; change = λ h. tt; last = λ is. is; order = λ o. refl }
+rest_is_quiet s Copy (sees.CopyPoint half) may = record { actors = λ k is. cc; seens = λ k a b. refl; none = refl; change = λ h. tt; last = λ is. is; order = λ o. refl }
+rest_is_quiet s actor seen may = absurd may
 
 -- an event of no session
 event_says : (trace : List Event) (e : Event) (logged : Option Act) (s : State) → ((k : ℕ) (his other : List Seen) → of_session e.actor k his other ≡ other)
@@ -232,10 +217,10 @@ pub run_says : (m : Machine) → IsRun m → AllSay m.trace m.state
 run_says = kept_along (λ o trace s. AllSay trace s) (record {
   base = λ o is k. subst (SaysOf [] o.history k) (sym (seat_empty o.sessions k)) tt;
   turn = λ m k turn run all moves. turn_says (setting_of m).format (setting_of m).pages m.trace m.state k turn (run_kept m run) moves.0.among moves.0.may all;
-  close = λ m k run all among. each_seat (SaysOf m.trace m.state.history) m.state.seats k (staged (seat_of m k) idle) among tt (λ j not. all j);
+  close = λ m k run all among closes. each_seat (SaysOf m.trace m.state.history) m.state.seats k (staged (seat_of m k) idle) among tt (λ j not. all j);
   append = λ m l run all moves. event_says m.trace (append_event l) (Some (marks (lists l))) m.state (λ k a b. refl) (λ txn. refl) all;
   rest = λ m actor seen run all may.
-      event_says m.trace (rest_event actor seen) None m.state (rest_is_quiet (setting_of m).pages m.state actor seen may).seens (λ txn. refl) all;
+      event_says m.trace (rest_event actor seen) None m.state (rest_is_quiet {pages = (setting_of m).pages} m.state actor seen may).seens (λ txn. refl) all;
 })
 
 -- ---- what a session is told
@@ -247,31 +232,25 @@ Told pages history seens trace txn (Some (saw rid slot)) = slot ≡ slot_at (pag
 Told pages history seens trace txn (Some committed) = IsDurable history trace txn
 Told pages history seens trace txn other = Unit {0}
 
-plain_told : (pages : ℕ) (history : History) (seens : List Seen) (trace : List Event) (txn : ℕ) (outcome : Outcome) → IsPlain outcome
-    → Told pages history seens trace txn (Some outcome)
-plain_told pages history seens trace txn (no_space row) plain = absurd plain
-plain_told pages history seens trace txn (saw rid slot) plain = absurd plain
-plain_told pages history seens trace txn committed plain = absurd plain
-plain_told pages history seens trace txn other plain = tt
+module _ (format : Format) (pages : ℕ) (s : State) (k : ℕ) (seat : Seat) (seens : List Seen) (trace : List Event) where
+  abbrev TellsIt : Turn → ℕ → Option Outcome → Type 0
+  TellsIt turn txn done = Told pages (after format s k seat turn).history (seen_of pages s seat turn ∷ seens) (event_at pages s k seat turn ∷ trace) txn done
 
-pub turn_told : (format : Format) (pages : ℕ) (s : State) (k : ℕ) (seat : Seat) (turn : Turn) (seens : List Seen) (trace : List Event)
-    → May format pages s k seat turn → Says seens trace s.history seat.txn seat.stage
-    → Told pages (after format s k seat turn).history (seen_of pages s seat turn ∷ seens) (event_at pages s k seat turn ∷ trace)
-    (txn_of seat turn) (outcome_of turn)
-turn_told format pages s k seat (scan_last row from) seens trace may says = scan_says seat.stage row from pages false seens trace s.history seat.txn may.at says
-turn_told format pages s k seat (try_last row page slot) seens trace may says =
-    λ one below. try_says s seat page slot seens (rw may.0.at at says) one (omega (arith, below, may.1))
-turn_told format pages s k seat (fetch rid slot) seens trace may says = may.1
-turn_told format pages s k seat finish seens trace may says = durable_more None s.history (event_at pages s k seat finish) trace seat.txn (rw may at says)
-turn_told format pages s k seat (settled outcome page) seens trace may says =
-    plain_told pages s.history (sees.Settle page 0 ∷ seens) (event_at pages s k seat (settled outcome page) ∷ trace) seat.txn outcome (rw may.0 at says).0
-turn_told format pages s k seat (settle outcome page lsn) seens trace may says =
-    plain_told pages (after format s k seat (settle outcome page lsn)).history (sees.Settle page lsn ∷ seens)
-    (event_at pages s k seat (settle outcome page lsn) ∷ trace) seat.txn outcome (rw may.at at says).0
-turn_told format pages s k seat (end outcome lsn) seens trace may says =
-    plain_told pages (after format s k seat (end outcome lsn)).history (sees.End lsn ∷ seens)
-    (event_at pages s k seat (end outcome lsn) ∷ trace) seat.txn outcome (rw may.0 at says)
-turn_told format pages s k seat other seens trace may says = tt
+  plain_told : (turn : Turn) (txn : ℕ) (outcome : Outcome) → IsPlain outcome → TellsIt turn txn (Some outcome)
+  plain_told turn txn (no_space row) plain = absurd plain
+  plain_told turn txn (saw rid slot) plain = absurd plain
+  plain_told turn txn committed plain = absurd plain
+  plain_told turn txn other plain = tt
+
+  pub turn_told : (turn : Turn) → May format pages s k seat turn → Says seens trace s.history seat.txn seat.stage → TellsIt turn (txn_of seat turn) (outcome_of turn)
+  turn_told (scan_last row from) may says = scan_says format pages s k seat seens trace seat.stage row from pages false may.at says
+  turn_told (try_last row page slot) may says = λ one below. try_says format pages s k seat seens trace page slot (rw may.0.at at says) one (omega (arith, below, may.1))
+  turn_told (fetch rid slot) may says = may.1
+  turn_told finish may says = durable_more None s.history (event_at pages s k seat finish) trace seat.txn (rw may at says)
+  turn_told (settled outcome page) may says = plain_told (settled outcome page) seat.txn outcome (rw may.0 at says).0
+  turn_told (settle outcome page lsn) may says = plain_told (settle outcome page lsn) seat.txn outcome (rw may.at at says).0
+  turn_told (end outcome lsn) may says = plain_told (end outcome lsn) seat.txn outcome (rw may.0 at says)
+  turn_told other may says = tt
 
 -- where no page is left, it is told that there is no space
 pub ends_told : (format : Format) (pages : ℕ) (s : State) (k : ℕ) (seat : Seat) (turn : Turn) → May format pages s k seat turn

@@ -37,10 +37,10 @@ traces_tell_logs = kept_along (λ o trace s. TellsLog o.setting.format o.history
   turn = λ m k turn run tells moves.
       turn_tells (setting_of m).format (setting_of m).pages m.opening.history (seens_of m.trace k) m.trace m.state k (seat_of m k) turn
       moves.0.may (run_says m run k) tells;
-  close = λ m k run tells among. tells;
+  close = λ m k run tells among closes. tells;
   append = λ m l run tells moves. inr (marks (lists l), m.state.history, refl, (l, refl, refl), tt, tells);
   rest = λ m actor seen run tells may.
-      let quiet : IsQuiet (setting_of m).pages actor seen = rest_is_quiet (setting_of m).pages m.state actor seen may in
+      let quiet : IsQuiet (setting_of m).pages actor seen = rest_is_quiet m.state actor seen may in
       inl (quiet.none, quiet.change m.state.history, tells);
 })
 
@@ -61,10 +61,10 @@ run_durable = kept_along (λ o trace s. AllDurable s.history trace) (record {
       let e : Event = event_of (setting_of m).pages m.state k turn in
       let seens : List Seen = e.seen ∷ seens_of m.trace k in
       let told : Told (setting_of m).pages (turned m k turn).history seens (e ∷ m.trace) e.txn e.done =
-      turn_told (setting_of m).format (setting_of m).pages m.state k (seat_of m k) turn (seens_of m.trace k) m.trace moves.0.may (run_says m run k) in
+      turn_told (setting_of m).format (setting_of m).pages m.state k (seat_of m k) (seens_of m.trace k) m.trace turn moves.0.may (run_says m run k) in
       more_durable (effect (setting_of m).format m.state (seat_of m k) turn).logged m.state.history e m.trace all
       (λ done. subst (Told (setting_of m).pages (turned m k turn).history seens (e ∷ m.trace) e.txn) done told);
-  close = λ m k run all among. all;
+  close = λ m k run all among closes. all;
   append = λ m l run all moves. more_durable (Some (marks (lists l))) m.state.history (append_event l) m.trace all (λ done. cc);
   rest = λ m actor seen run all may. more_durable None m.state.history (rest_event actor seen) m.trace all (λ done. cc);
 })
@@ -101,13 +101,13 @@ run_tells = kept_along (λ o trace s. TellsLast o.setting.pages s.history trace)
     session = k;
     only = λ j is. cc;
     told = rw (eq-eqb k k refl)
-        (turn_told (setting_of m).format (setting_of m).pages m.state k (seat_of m k) turn (seens_of m.trace k) m.trace moves.0.may (run_says m run k));
+        (turn_told (setting_of m).format (setting_of m).pages m.state k (seat_of m k) (seens_of m.trace k) m.trace turn moves.0.may (run_says m run k));
     last = ends_told (setting_of m).format (setting_of m).pages m.state k (seat_of m k) turn moves.0.may;
   };
-  close = λ m k run tells among. tells;
+  close = λ m k run tells among closes. tells;
   append = λ m l run tells moves. record { session = 0; only = λ k is. cc; told = tt; last = λ is. absurd is };
   rest = λ m actor seen run tells may.
-      let quiet : IsQuiet (setting_of m).pages actor seen = rest_is_quiet (setting_of m).pages m.state actor seen may in
+      let quiet : IsQuiet (setting_of m).pages actor seen = rest_is_quiet m.state actor seen may in
       record { session = 0; only = λ k is. absurd (quiet.actors (suc k) is); told = tt; last = λ is. absurd (quiet.last is) };
 })
 

@@ -11,6 +11,7 @@ use Rattle.rm_core.specs.Names.{Latches, Looks, claims_at, Savepoint, target_of,
 use Rattle.rm_core.specs.Names.{prepares, compensates, Seat, Grant, State, seat_at, latched, with_grant, HasGrant, Wants, MayLatch, IsReading, Outcome, Scans}
 use Rattle.rm_core.specs.Names.{Aim, tries, fetches, sets, released, IsNext, undoes_all, empty_seat, change_of, setting, entry_now, SlotFits, MayAlter}
 use Rattle.rm_core.specs.Names.{MaySettle, MayPrepare, inserted, altered, MayInsert}
+use Rattle.rm_core.specs.Names.{May, after, Turn, insert, alter, settle, commit, prepare, compensate, end}
 use Rattle.rm_core.proofs.Names.{inl, inr, refl, sym, subst, ◌∙◌, arith, Elsewhere, elsewhere-none, elsewhere-end, finished_has_record, ap, eq-eqb, last_is_of}
 use Rattle.rm_core.proofs.Names.{elsewhere-change, elsewhere-undo, elsewhere-enter, elsewhere-commit, finished_or_not, finish_fits, pending-change}
 use Rattle.rm_core.proofs.Names.{pending-commit_other, legal_is_in_order, fits_in_order, entries_follow, no_undo_lacks_room}
@@ -194,6 +195,23 @@ owes_heads : (stage : Stage) (page : ℕ) → Owes stage page → Heads stage pa
 owes_heads (settles outcome on) page owes = owes
 owes_heads (compensates aim on) page owes = owes
 owes_heads other page owes = absurd owes
+
+-- ---- what a turn leaves of other transactions
+
+abbrev pub Any : ℕ → Type 0
+Any page = Unit {0}
+
+-- a turn's record is of its transaction
+pub turn_elsewhere : (format : Format) (pages : ℕ) (s : State) (k : ℕ) (seat : Seat) (turn : Turn) → May format pages s k seat turn
+    → Elsewhere s.history (after format s k seat turn).history seat.txn Any
+turn_elsewhere format pages s k seat (insert row rid lsn) may = elsewhere-change _ _ _ _ refl tt
+turn_elsewhere format pages s k seat (alter rid slot lsn) may = elsewhere-change _ _ _ _ refl tt
+turn_elsewhere format pages s k seat (settle outcome page lsn) may = elsewhere-enter _ _ _ _ refl tt
+turn_elsewhere format pages s k seat (commit lsn) may = elsewhere-commit _ _ _
+turn_elsewhere format pages s k seat (prepare aim last lsn) may = elsewhere-enter _ _ _ _ (last_is_of s.history seat.txn last may.next.0 may.next.1) tt
+turn_elsewhere format pages s k seat (compensate aim last lsn) may = elsewhere-undo _ _ _ _ (last_is_of s.history seat.txn last may.1.0 may.1.1) tt
+turn_elsewhere format pages s k seat (end outcome lsn) may = elsewhere-end _ _ _
+turn_elsewhere format pages s k seat other may = elsewhere-none s.history seat.txn Any
 
 module _ (format : Format) (s : State) (k : ℕ) (has : Turns format s k) where
   abbrev seat : Seat

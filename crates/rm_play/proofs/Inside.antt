@@ -47,7 +47,7 @@ run_inside = kept_along (λ o trace s. Inside o.setting.pages s) (record {
   base = λ o is. record { within = λ k. subst (λ (seat : Seat). Within o.setting.pages seat.stage) (sym (seat_empty o.sessions k)) tt; ids = is.ids };
   turn = λ m k turn run is moves. effect_inside (setting_of m).pages m.state k _ is moves.0.among
       (turn_inside (setting_of m).format (setting_of m).pages m.state k (seat_of m k) turn (is.within k) is.ids moves.0.may);
-  close = λ m k run is among. effect_inside (setting_of m).pages m.state k (goes_to m.state (staged (seat_of m k) idle)) is among (tt, is.ids);
+  close = λ m k run is among closes. effect_inside (setting_of m).pages m.state k (goes_to m.state (staged (seat_of m k) idle)) is among (tt, is.ids);
   append = λ m l run is moves. record { within = is.within; ids = is.ids };
   rest = λ m actor seen run is may. is;
 })

@@ -12,8 +12,8 @@ use Rattle.rm_core.proofs.Names.{inl, inr, refl, sym, ap, subst, ◌∙◌, arit
 use Rattle.rm_core.proofs.Names.{pending-change_other, pending-undo_other, pending-commit_other, pending-end_other}
 use Rattle.rm_core.proofs.Moves.{moved-set}
 use Rattle.rm_core.proofs.Runs.{moves_run, run_kept}
-use Rattle.rm_core.proofs.Stages.{apart_or_idle, turn_elsewhere}
-use Rattle.rm_core.proofs.Turns.{heads_at}
+use Rattle.rm_core.proofs.Stages.{apart_or_idle}
+use Rattle.rm_core.proofs.Turns.{heads_at, turn_elsewhere}
 use Rattle.rm_play.proofs.Inside.{Within, run_inside}
 use Rattle.rm_events.specs.declared.operations.Op.TheVariants as ops
 
