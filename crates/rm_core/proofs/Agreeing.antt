@@ -430,8 +430,7 @@ module _ {format : Format} {pages : ℕ} {trace : List Event} {s : State} (k : �
       → IsFinished (left turn).history other × (other ≡ 0 → ⊥)
   ordered (commit lsn) seated may other (inl is) = (inl is, λ zero. seated (is ∙ zero))
   ordered (commit lsn) seated may other (inr among) = (inr (known.over other among).0, (known.over other among).1)
-  ordered turn seated may other among =
-      ((turn_elsewhere format pages s k seat turn may).still other (known.over other among).0, (known.over other among).1)
+  ordered turn seated may other among = ((turn_elsewhere format pages s k seat turn may).still other (known.over other among).0, (known.over other among).1)
 
   -- So after each turn all is known again.
   pub turn_agrees : (turn : Turn) → k < length s.seats → IsSeated seat turn → May format pages s k seat turn

@@ -130,8 +130,7 @@ more-released (first ∷ grants) txn other rid differs =
     })
     (λ is. more-both first grants (released grants txn) other rid rest)
 
-pub released_any : (grants : List Grant) (txn other : ℕ) (rid : Rid) → (other ≡ txn → ⊥) → HasGrant grants other rid
-    → HasGrant (released grants txn) other rid
+pub released_any : (grants : List Grant) (txn other : ℕ) (rid : Rid) → (other ≡ txn → ⊥) → HasGrant grants other rid → HasGrant (released grants txn) other rid
 released_any grants txn other rid differs = (more-released grants txn other rid differs).any
 
 -- and no others come

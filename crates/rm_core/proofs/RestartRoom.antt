@@ -9,6 +9,7 @@ use Rattle.rm_history.proofs.Losers.{losers_are_unfinished}
 use Rattle.rm_core.specs.Names.{Effect, effect, logging, staged, after, IsOver, RoomIsKept, May, IsSeated, Setting, turns, CHANGE_BYTES, bytes_for, claims_at}
 use Rattle.rm_core.specs.Names.{claim_of, claims, Opening, Machine, IsRun, moved, size_of, end_of, IsNext, Stage, idle, settles, forces, finishes, compensates}
 use Rattle.rm_core.specs.Names.{Seat, State, seat_at, Turn, skip, unname, begin, insert, alter, settle, commit, finish, prepare, compensate, end}
+use Rattle.std.proofs.lemmas.Bool.Decides.{nat_tests}
 use Rattle.rm_core.proofs.Names.{inl, inr, set, refl, sym, ap, subst, ◌∙◌, arith, length-append, cases_eq, eq-eqb, ne_eqb, last_is_unfinished, last_has_record}
 use Rattle.rm_core.proofs.Names.{sum_below-less, Elsewhere}
 use Rattle.rm_core.proofs.Runs.{setting_of, seat_of, turned, Makes, run_in_order, kept_along, each_seat, moves_run, run_known, run_kept}
@@ -45,10 +46,7 @@ share_here : {A : Type 0} (of bytes : A → ℕ) (first : A) (rest : List A) (tx
 share_here of bytes first rest txn is = rw (eq-eqb (of first) txn is)
 
 share_less : {A : Type 0} (of bytes : A → ℕ) (first : A) (rest : List A) (txn : ℕ) → share of bytes txn rest ≤ share of bytes txn (first ∷ rest)
-share_less of bytes first rest txn = elim (cases_eq (of first) txn) [
-  | inl is ↦ rw (eq-eqb (of first) txn is) (omega arith)
-  | inr not ↦ rw (ne_eqb (of first) txn not) (omega arith)
-]
+share_less of bytes first rest txn = grind (arith, nat_tests)
 
 -- where each one's transaction is a session's, all of it is in the sessions' shares
 shared : {A : Type 0} (of bytes : A → ℕ) (txn : ℕ → ℕ) (n : ℕ) (all : List A) → ((one : A) → 0 < bytes one)
@@ -74,10 +72,7 @@ abbrev cost : History → ℕ
 cost history = total weight (all_pending history) + total ten (losers_of history)
 
 entry_bound : (start : Format) (history : History) (last : Change) → entry_bytes start history last ≤ 15
-entry_bound start history last = elim (cases_eq (entry_of history last.rid.page) (category_after start history last)) [
-  | inl right ↦ rw (eq-eqb (entry_of history last.rid.page) (category_after start history last) right) (omega arith)
-  | inr wrong ↦ rw (ne_eqb (entry_of history last.rid.page) (category_after start history last) wrong) (omega arith)
-]
+entry_bound start history last = grind (arith, nat_tests)
 
 undo_bound : (u : Undo) → bytes_of (compensate_record u) ≤ 35 + row_length u.back
 unfolding size_of
@@ -98,17 +93,11 @@ costs start history = omega (arith, undoing_bound start history (all_pending his
 -- no more without a transaction
 less_pending : (all : List Change) (txn : ℕ) → total weight (without all txn) ≤ total weight all
 less_pending [] txn = omega arith
-less_pending (newest ∷ before) txn = elim (cases_eq newest.txn txn) [
-  | inl is ↦ rw (eq-eqb newest.txn txn is) (omega (arith, less_pending before txn))
-  | inr not ↦ rw (ne_eqb newest.txn txn not) (omega (arith, less_pending before txn))
-]
+less_pending (newest ∷ before) txn = let rest = less_pending before txn in grind (arith, nat_tests)
 
 less_losers : (txn : ℕ) (all : List ℕ) → total ten (without_number txn all) ≤ total ten all
 less_losers txn [] = omega arith
-less_losers txn (first ∷ rest) = elim (cases_eq txn first) [
-  | inl is ↦ rw (eq-eqb txn first is) (omega arith)
-  | inr not ↦ rw (ne_eqb txn first not) (omega (arith, less_losers txn rest))
-]
+less_losers txn (first ∷ rest) = let less = less_losers txn rest in grind (arith, nat_tests)
 
 -- ---- what a transaction's undo costs
 
@@ -123,14 +112,10 @@ cost_of history txn = share txn_in weight txn (all_pending history) + share itse
 
 pending_share : (txn : ℕ) (all : List Change) → share txn_in weight txn all ≡ bytes_for (of_txn txn all)
 pending_share txn [] = refl
-pending_share txn (newest ∷ before) = elim (cases_eq newest.txn txn) [
-  | inl is ↦ rw (eq-eqb newest.txn txn is) (omega (arith, pending_share txn before))
-  | inr not ↦ rw (ne_eqb newest.txn txn not) (pending_share txn before)
-]
+pending_share txn (newest ∷ before) = let rest = pending_share txn before in grind (arith, nat_tests)
 
 -- a number is once in a list of numbers that rise, or not
-once : (all : List ℕ) (txn : ℕ) → AreRising all
-    → (IsAmong all txn × (share itself ten txn all ≡ 10)) ⊎ ((IsAmong all txn → ⊥) × (share itself ten txn all ≡ 0))
+once : (all : List ℕ) (txn : ℕ) → AreRising all → (IsAmong all txn × (share itself ten txn all ≡ 10)) ⊎ ((IsAmong all txn → ⊥) × (share itself ten txn all ≡ 0))
 once [] txn rise = inr (λ is. is, refl)
 once (first ∷ rest) txn rise = elim (cases_eq first txn) [
   | inl is ↦ elim (once rest txn rise.1) [

@@ -144,8 +144,7 @@ pub record IsKept (P : Opening → List Event → State → Type 0) : Type 0 whe
   pub base : (o : Opening) → IsOpening o → P o [] (opened o)
   pub turn : (m : Machine) (k : ℕ) (turn : Turn) → IsRun m → Of P m → Makes m k turn
       → P m.opening (event_of (setting_of m).pages m.state k turn ∷ m.trace) (turned m k turn)
-  pub close : (m : Machine) (k : ℕ) → IsRun m → Of P m → k < length m.state.seats → Closes (seat_of m k).stage
-      → P m.opening m.trace (closed m.state k)
+  pub close : (m : Machine) (k : ℕ) → IsRun m → Of P m → k < length m.state.seats → Closes (seat_of m k).stage → P m.opening m.trace (closed m.state k)
   pub append : (m : Machine) (l : Listing) → IsRun m → Of P m → Moves (setting_of m) m.state (appends l) (appended m.state l)
       → P m.opening (append_event l ∷ m.trace) (appended m.state l)
   pub rest : (m : Machine) (actor : Actor) (seen : Seen) → IsRun m → Of P m → MayRest m.state actor seen → P m.opening (rest_event actor seen ∷ m.trace) m.state
@@ -161,8 +160,7 @@ kept_move P kept m new (answered k (again by)) run of moves = subst (P m.opening
 kept_move P kept m new (answered k (log_full at)) run of moves = subst (P m.opening m.trace) (sym moves.1.1)
     (kept.close m k run of moves.0 (refused_closes (setting_of m) m.state k at (run_kept m run) moves.1.0))
 kept_move P kept m new (answered k (spent last)) run of moves = subst (P m.opening m.trace) (sym moves.1.2) of
-kept_move P kept m new (appends l) run of moves =
-    subst (P m.opening (append_event l ∷ m.trace)) (sym moves.2) (kept.append m l run of (moves.0, moves.1, refl))
+kept_move P kept m new (appends l) run of moves = subst (P m.opening (append_event l ∷ m.trace)) (sym moves.2) (kept.append m l run of (moves.0, moves.1, refl))
 kept_move P kept m new (append_refused at) run of moves = subst (P m.opening m.trace) (sym moves.1) of
 kept_move P kept m new (rests actor seen) run of moves =
     subst (P m.opening (rest_event actor seen ∷ m.trace)) (sym moves.1) (kept.rest m actor seen run of moves.0)

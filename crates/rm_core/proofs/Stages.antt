@@ -65,8 +65,7 @@ durable_more logged history e trace txn is =
 still_says : (seens : List Seen) (trace : List Event) (e : Event) (logged : Option Act) (history : History) (txn : ℕ) (stage : Stage)
     → pending_of (logging logged history) txn ≡ pending_of history txn → Says seens trace history txn stage
     → Says seens (e ∷ trace) (logging logged history) txn stage
-still_says seens trace e logged history txn (settles outcome on) pending says =
-    let is = says.1 in (says.0, (is.0, (is.1.0, pending ∙ is.1.1), is.2))
+still_says seens trace e logged history txn (settles outcome on) pending says = let is = says.1 in (says.0, (is.0, (is.1.0, pending ∙ is.1.1), is.2))
 still_says seens trace e logged history txn forces pending says =
     (among_more e.seen e.txn (order_of trace) txn says.0, (says.1.0, logged_more logged history (commits (record { lsn = says.1.0; txn = txn })) says.1.1))
 still_says seens trace e logged history txn finishes pending says = durable_more logged history e trace txn says
@@ -131,8 +130,7 @@ module _ (format : Format) (pages : ℕ) (s : State) (k : ℕ) (seat : Seat) (se
   own_says (refuse op rid) ordered may says = rw may.0 tt
   own_says (wait op rid alone holder) ordered may says = rw may.0.at tt
   own_says (scan row from to true) ordered may says = scan_says seat.stage row from to true may.at says
-  own_says (scan row from to false) ordered may says =
-      (scan_says seat.stage row from to false may.at says, part_some pages from to may.stops.0 may.stops.1)
+  own_says (scan row from to false) ordered may says = (scan_says seat.stage row from to false may.at says, part_some pages from to may.stops.0 may.stops.1)
   own_says (latch page) ordered may says = latch_says seat.stage page (event_at pages s k seat (latch page)) may.wants_it says
   own_says (try row page slot) ordered may says = (try_says page slot (rw may.0.at at says), omega arith)
   own_says (insert row rid lsn) ordered may says =
