@@ -23,8 +23,6 @@ use Rattle.rm_core.proofs.Savepoints.{until, until_less, until_all, MadeAt, Save
 use Rattle.rm_core.proofs.Sizes.{next_above}
 use Rattle.rm_events.specs.declared.operations.Op.TheVariants as ops
 
--- ---- rows
-
 -- rows that are the same at a row id stay so
 with_slot-same : (one other : Rows) (rid place : Rid) (slot : Slot) → one place ≡ other place → with_slot one rid slot place ≡ with_slot other rid slot place
 with_slot-same one other rid place slot same = ap (λ (row : Option (List ℕ)). cond (is_same_place place rid) (row_of slot) row) same
@@ -49,8 +47,6 @@ sees format s txn rid kept free =
           ])
           ∙ sym (applied_free (rows_of_log s.history) rid (pending_of s.history txn) not)
     ]
-
--- ---- stages
 
 -- where a transaction goes: on, back to the LSN of a savepoint, or out, where it is rolled back as a whole
 pub data Way : Type 0 where
@@ -77,8 +73,6 @@ view other = record { promised = None; way = forth }
 -- what the user was told, and is promised
 abbrev pub due : Stage → List Outcome → List Outcome
 due stage told = onto (view stage).promised told
-
--- ---- what is known of a transaction
 
 -- the user's rows and savepoints are what the pending changes make, or will make once the transaction is back at the savepoint
 abbrev pub Stands : List Change → List (Savepoint ℕ) → List Outcome → Way → Type 0
@@ -129,8 +123,6 @@ running_still pages s new trace more seat pending keeps same running some active
       stands = subst (λ (l : List Change). Stands l seat.saves (due seat.stage (ops_of trace seat.txn)) (view seat.stage).way) (sym pending) a.stands;
     })
 
--- ---- what turns ask for and do
-
 -- a slot without a row is vacant
 vacant_is : (slot : Slot) → row_of slot ≡ None → slot ≡ Vacant
 vacant_is Vacant none = refl
@@ -157,8 +149,6 @@ skipped_begin : (seat : Seat) (op : Op) → IsSkipped seat op → (seat.txn ≡ 
 skipped_begin seat ops.Begin is some = refl
 skipped_begin seat ops.Unbound is some = absurd is
 skipped_begin seat other is some = absurd (some is)
-
--- ---- a session
 
 module _ {format : Format} {pages : ℕ} {trace : List Event} {s : State} (k : ℕ) (kept : Kept format s) (known : Agreeing pages trace s) where
   abbrev pub seat : Seat
@@ -241,8 +231,6 @@ module _ {format : Format} {pages : ℕ} {trace : List Event} {s : State} (k : �
   still : KeepsLocks s s txn
   still rid has = (has, refl)
 
-  -- ---- what it sees
-
   sees_told : (rid : Rid) → Stands pending seat.saves told forth → ((other : ℕ) → (other ≡ txn → ⊥) → HoldsAlone s.grants other rid → ⊥)
       → (m : Rows) → m rid ≡ rows_of_log s.history rid → (single_after m told).rows rid ≡ row_at (page_of s.history rid.page) rid.slot
   sees_told rid st free m base = (st m).0 rid ∙ applied-same m (rows_of_log s.history) rid pending base ∙ sym (sees format s txn rid kept free)
@@ -253,8 +241,6 @@ module _ {format : Format} {pages : ℕ} {trace : List Event} {s : State} (k : �
 
   sets_locked : (rid : Rid) (slot : Slot) → seat.stage ≡ sets rid slot → HasGrant s.grants txn rid
   sets_locked rid slot at = alone_has s.grants txn rid (subst (Locked s.grants txn) at (kept.locked k))
-
-  -- ---- what its turns leave
 
   -- a transaction begins with an id that has no record and no operations
   begins : (id : ℕ) → id ≡ s.next → Own (begin id)
@@ -395,8 +381,6 @@ module _ {format : Format} {pages : ℕ} {trace : List Event} {s : State} (k : �
         ),
       ))
 
-  -- ---- all sessions after a turn
-
   -- another transaction keeps its locks
   spares : (turn : Turn) → IsSeated seat turn → May format pages s k seat turn → (other : ℕ) → (other ≡ txn → ⊥) → KeepsLocks s (left turn) other
   spares (insert row rid lsn) seated may other differs at has = (joined_more s.grants _ other at has, refl)
@@ -447,8 +431,6 @@ module _ {format : Format} {pages : ℕ} {trace : List Event} {s : State} (k : �
         fresh = λ other above. if_different e.txn other _ _ (λ is. omega (arith, id.0, above, is)) ∙ known.fresh other (omega (arith, id.1, above));
         over = ordered turn seated may;
       }
-
-  -- ---- a closed operation
 
   closed_own : (was : Stage) → seat.stage ≡ was → Closes was → Here forth told
   closed_own idle at closes = here idle at (λ o. o)

@@ -37,8 +37,6 @@ Locks grants locks = ((txn : ℕ) (rid : Rid) → More grants locks txn rid) × 
 pub no_locks : (grants : List Grant) → AreApart grants → Locks grants grants
 no_locks grants apart = (more-same grants, apart)
 
--- ---- one lock more
-
 same_is : (a b : Bool) → is_same a b ≡ true → a ≡ b
 same_is true true is = refl
 same_is true false is = absurd cc

@@ -7,7 +7,7 @@ use Rattle.rm_core.specs.Names.{returns, dropped, upto, Stage, idle, seeks, want
 use Rattle.rm_core.specs.Names.{prepares, compensates, Seat, State, seat_at, Turn, skip, unname, refuse, begin, scan, scan_last, latch, try, try_last, insert}
 use Rattle.rm_core.specs.Names.{lock, lock_alone, wait, die, fetch, miss, lack, alter, settled, settle, commit, force, finish, abort, prepared, prepare}
 use Rattle.rm_core.specs.Names.{compensate, end, save, no_target, target, back, owes_at, owed_by, staged, Setting, Lacks, IsRefused}
-use Rattle.rm_core.proofs.Names.{set, refl, sym, ap, subst, ◌∙◌, arith, ne_eqb, length-set, last_is_of, sum_below-one, pending_of-undo, pending-undo_other}
+use Rattle.rm_core.proofs.Names.{nat_tests, set, refl, sym, ap, subst, ◌∙◌, arith, ne_eqb, length-set, last_is_of, sum_below-one, pending_of-undo, pending-undo_other}
 use Rattle.rm_core.proofs.Names.{pending-commit_other, pending-end_other, inl, inr, cond, eqb, cases_eq, eq-eqb, sum_below-less}
 use Rattle.rm_core.proofs.Turns.{begin_keeps, finish_keeps, end_keeps, insert_keeps, alter_keeps, settle_keeps, prepare_keeps, compensate_keeps, commit_keeps}
 use Rattle.rm_core.proofs.Turns.{Turns, IsPlain, plain, IsFree, free, left_by, goes, scans_plain, lock_keeps, lock_alone_keeps, force_keeps, settled_keeps}
@@ -23,10 +23,7 @@ claims_owed finishes bytes = omega arith
 claims_owed other bytes = omega arith
 
 claim_owed : (history : History) (seat : Seat) → claim_of history seat ≤ owed_by history seat
-claim_owed history seat = elim (cases_eq seat.txn 0) [
-  | inl none ↦ rw (eq-eqb seat.txn 0 none) (omega arith)
-  | inr some ↦ rw (ne_eqb seat.txn 0 some) (claims_owed seat.stage (bytes_for (pending_of history seat.txn)))
-]
+claim_owed history seat = let less = claims_owed seat.stage (bytes_for (pending_of history seat.txn)) in grind (arith, nat_tests)
 
 pub all_owed : (s : State) → claims s ≤ owed s
 all_owed s = sum_below-less (λ k. owed_by s.history (seat_at s.seats k)) (λ k. claim_of s.history (seat_at s.seats k)) (length s.seats)
@@ -53,8 +50,6 @@ module _ (format : Format) (limit : ℕ) (s : State) (k : ℕ) (known : Known fo
 
   has : (seat.txn ≡ 0 → ⊥) → Turns format s k
   has some = record { kept = known.kept; among = among; some = some }
-
-  -- ---- room
 
   -- where the log grows by no more than the session's claim falls, there is room as before
   room : (e : Effect) (was : Stage) → (seat.txn ≡ 0 → ⊥) → seat.stage ≡ was
@@ -101,8 +96,6 @@ module _ (format : Format) (limit : ℕ) (s : State) (k : ℕ) (known : Known fo
   -- where the turn was asked for it
   room_asked : (new : State) → end_of new.history + 32 + owed new ≤ limit → HasRoom limit new
   room_asked new asks = omega (arith, asks, all_owed new)
-
-  -- ---- turns
 
   -- nothing changes
   still : Known format limit (with_effect s k (goes_to s seat))

@@ -7,8 +7,6 @@ use Rattle.rm_core.specs.Names.{empty_seat}
 use Rattle.rm_core.proofs.Names.{inl, inr, set, sym, ap, subst, ◌∙◌, arith, cases_eq, get_or-set_same, get_or-set_other, set-get_or, Elsewhere}
 use Rattle.rm_core.proofs.Grants.{More, AreApart}
 
--- ---- stages
-
 -- a page is latched alone, or it is not
 pub latches_or_not : (stage : Stage) (page : ℕ) → Latches stage page ⊎ (Latches stage page → ⊥)
 latches_or_not (tries row on) page = cases_eq on page
@@ -36,8 +34,6 @@ locked_more grants locks txn (alters rid slot) more is = (more rid).alone is
 locked_more grants locks txn (sets rid slot) more is = (more rid).alone is
 locked_more grants locks txn other more is = is
 
--- ---- seats
-
 -- one seat is another
 pub record Moved (old new : ℕ → Seat) (k : ℕ) (seat : Seat) : Type 0 where
   pub here : new k ≡ seat
@@ -52,8 +48,6 @@ moved-set seats k seat among = record {
 -- a turn that leaves the session's seat leaves all
 pub same_state : (s : State) (k : ℕ) → with_effect s k (goes_to s (seat_at s.seats k)) ≡ s
 same_state s k = ap (λ (l : List Seat). record s { seats = l }) (set-get_or s.seats k empty_seat)
-
--- ---- the turn
 
 -- a session's latches are compatible with the others' as they are
 pub record Apart (old : ℕ → Seat) (k : ℕ) (stage : Stage) : Type 0 where

@@ -1,7 +1,7 @@
 -- The lemmas of the crates below, in one place.
 pub use Rattle.std.proofs.Common.{ap, arith, cond, eqb, inl, inr, leb, length-append, ltb, one-add, refl, reverse, set, subst, subst₂, sym, ◌∙◌}
 pub use Rattle.std.proofs.lemmas.Bool.{and_parts, cases_eq, cases_lt, cases_order, cond_both, eq-eqb, eqb-true, le-leb, le-ltb, leb-true, lt-ltb, ne_eqb}
-pub use Rattle.std.proofs.lemmas.Bool.Decides.{Decides-and, Decides-eqb, Decides-like, Decides-ltb, Decides-not, Decides-or, not_from_Decides}
+pub use Rattle.std.proofs.lemmas.Bool.Decides.{Decides-and, Decides-eqb, Decides-like, Decides-ltb, Decides-not, Decides-or, nat_tests, not_from_Decides}
 pub use Rattle.std.proofs.lemmas.List.{get_or-set_other, get_or-set_same, get_or_past, length-replicate, length-set, set-get_or}
 pub use Rattle.rm_model.proofs.Sums.{sum_below-less, sum_below-one, sum_below-same, sum_below-zero}
 pub use Rattle.rm_history.proofs.Chains.{last_is_of, last_is_unfinished}

@@ -9,8 +9,7 @@ use Rattle.rm_history.proofs.Losers.{losers_are_unfinished}
 use Rattle.rm_core.specs.Names.{Effect, effect, logging, staged, after, IsOver, RoomIsKept, May, IsSeated, Setting, turns, CHANGE_BYTES, bytes_for, claims_at}
 use Rattle.rm_core.specs.Names.{claim_of, claims, Opening, Machine, IsRun, moved, size_of, end_of, IsNext, Stage, idle, settles, forces, finishes, compensates}
 use Rattle.rm_core.specs.Names.{Seat, State, seat_at, Turn, skip, unname, begin, insert, alter, settle, commit, finish, prepare, compensate, end}
-use Rattle.std.proofs.lemmas.Bool.Decides.{nat_tests}
-use Rattle.rm_core.proofs.Names.{inl, inr, set, refl, sym, ap, subst, ◌∙◌, arith, length-append, cases_eq, eq-eqb, ne_eqb, last_is_unfinished, last_has_record}
+use Rattle.rm_core.proofs.Names.{nat_tests, inl, inr, set, refl, sym, ap, subst, ◌∙◌, arith, length-append, cases_eq, eq-eqb, ne_eqb, last_is_unfinished, last_has_record}
 use Rattle.rm_core.proofs.Names.{sum_below-less, Elsewhere}
 use Rattle.rm_core.proofs.Runs.{setting_of, seat_of, turned, Makes, run_in_order, kept_along, each_seat, moves_run, run_known, run_kept}
 use Rattle.rm_core.proofs.Moves.{moved-set}
@@ -58,8 +57,6 @@ shared of bytes txn n (first ∷ rest) some has =
     let apart = sum_apart (λ k. share of bytes (txn k) rest) (λ k. share of bytes (txn k) (first ∷ rest)) its.0 (bytes first) n
     (λ j. share_less of bytes first rest (txn j)) (omega (arith, share_here of bytes first rest (txn its.0) (sym its.2))) its.1 in
     omega (arith, others, apart)
-
--- ---- what an undo costs
 
 abbrev weight : Change → ℕ
 weight c = CHANGE_BYTES + row_length c.before
@@ -274,8 +271,6 @@ active_room m k run active =
     let apart = sum_apart (λ j. cost_of m.state.history (seat_of m j).txn) (λ j. claim_of m.state.history (seat_of m j)) k 24 (length m.state.seats)
     (λ j. each_claims m j run) (active_claims m k run active) (among_seats m.state.seats k active.some) in
     omega (arith, (run_known m run).room, cost_shared m run, apart)
-
--- ---- prefixes
 
 abbrev HasUndoRoom : Setting → History → Type 0
 HasUndoRoom setting history = end_of history + (BATCH_HEADER + undo_bytes setting.format history) ≤ setting.limit

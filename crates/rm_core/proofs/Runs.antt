@@ -11,8 +11,6 @@ use Rattle.rm_core.proofs.Sizes.{next_above}
 use Rattle.rm_core.proofs.Moves.{Moved, moved-set}
 use Rattle.rm_events.specs.declared.events.Seen.TheVariants as sees
 
--- ---- induction
-
 pub moves_run : MovesRun
 moves_run m move new run moves = record { opening = run.opening; runs = (m.trace, m.state, run.runs, moves, refl) }
 
@@ -31,8 +29,6 @@ module _ (P : Machine → Type 0) (base : (o : Opening) → IsOpening o → P (s
 
   pub along : (m : Machine) → IsRun m → P m
   along m run = after_moves m.opening m.moves m.trace m.state run.opening run.runs
-
--- ---- the opening
 
 -- each seat of an opened machine is empty
 pub seat_empty : (sessions k : ℕ) → seat_at (replicate sessions empty_seat) k ≡ empty_seat
@@ -62,8 +58,6 @@ nothing_claimed : (history : History) (sessions n : ℕ) → sum_below (λ k. cl
 nothing_claimed history sessions n =
     sum_below-same (λ k. 0) (λ k. claim_of history (seat_at (replicate sessions empty_seat) k)) n
     (λ k among. ap (claim_of history) (seat_empty sessions k)) ∙ sum_below-zero n
-
--- ---- moves
 
 appends_kept : (format : Format) (s : State) (l : Listing) → Kept format s → MayAppend s l → Kept format (appended s l)
 appends_kept format s l kept may = record {
@@ -109,8 +103,6 @@ run_known = along (λ (m : Machine). Known m.opening.setting.format m.opening.se
 pub run_kept : RunsAreKept
 run_kept m run = (run_known m run).kept
 
--- ---- parts of a machine
-
 abbrev pub setting_of : Machine → Setting
 setting_of m = m.opening.setting
 
@@ -133,8 +125,6 @@ rest_event actor seen = record { actor = actor; txn = 0; seen = seen; done = Non
 
 pub run_in_order : (m : Machine) → IsRun m → IsInOrder m.state.history
 run_in_order m run = legal_is_in_order (setting_of m).format m.state.history (run_kept m run).legal
-
--- ---- induction over events
 
 -- a property of an opening, a trace and a state
 abbrev pub Of : (Opening → List Event → State → Type 0) → Machine → Type 0
@@ -167,8 +157,6 @@ kept_move P kept m new (rests actor seen) run of moves =
 
 pub kept_along : (P : Opening → List Event → State → Type 0) → IsKept P → (m : Machine) → IsRun m → Of P m
 kept_along P kept = along (Of P) kept.base (λ m move new run of moves. kept_move P kept m new move run of moves)
-
--- ---- one seat is another
 
 pub each_seat : (P : ℕ → Seat → Type 0) (seats : List Seat) (k : ℕ) (seat : Seat) → k < length seats → P k seat
     → ((j : ℕ) → (j ≡ k → ⊥) → P j (seat_at seats j)) → (j : ℕ) → P j (seat_at (set seats k seat) j)

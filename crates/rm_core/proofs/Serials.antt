@@ -11,8 +11,6 @@ use Rattle.rm_core.proofs.Runs.{kept_along, setting_of, run_kept, txn_none}
 use Rattle.rm_core.proofs.Stages.{rest_is_quiet}
 use Rattle.rm_events.specs.declared.events.Seen.TheVariants as sees
 
--- ---- the order of commits
-
 -- more operations of a transaction that make no difference
 abbrev Like : List Outcome → List Outcome → Type 0
 Like told more = (more ≡ told) ⊎ (more ≡ committed ∷ told)
@@ -126,8 +124,6 @@ module _ {pages : ℕ} {start : History} {ops : ℕ → List Outcome} {order : L
         (λ newer. ap (λ (n : ℕ). drop n (f.txn ∷ order)) (one-add (commits_in newer)));
   }
 
--- ---- moves
-
 -- What is known of a machine.
 abbrev Serial : Opening → List Event → State → Type 0
 Serial o trace s = Ordered o.setting.pages o.history (ops_of trace) (order_of trace) s.history × Agreeing o.setting.pages trace s
@@ -187,8 +183,6 @@ module _ (m : Machine) (run : IsRun m) (it : Serial m.opening m.trace m.state) w
               (finished txn was.0, was.1);
         },
       )
-
--- ---- the law
 
 run_serial : (m : Machine) → IsRun m → Serial m.opening m.trace m.state
 run_serial = kept_along Serial (record {

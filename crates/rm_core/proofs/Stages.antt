@@ -8,14 +8,12 @@ use Rattle.rm_core.specs.Names.{no_space, saw, committed, Machine, IsRun, of_ses
 use Rattle.rm_core.specs.Names.{returns, Stage, idle, seeks, wants, tries, reads, alters, settles, forces, finishes, rolls, prepares, compensates, Seat, State}
 use Rattle.rm_core.specs.Names.{seat_at, Turn, skip, unname, refuse, scan, scan_last, latch, try, try_last, insert, wait, fetch, alter, settled, settle, commit}
 use Rattle.rm_core.specs.Names.{force, finish, prepared, prepare, compensate, end}
-use Rattle.rm_core.proofs.Names.{inl, inr, refl, sym, ap, subst, ◌∙◌, arith, cases_eq, cases_lt, eq-eqb, ne_eqb, last_is_of, pending-change, legal_is_in_order}
+use Rattle.rm_core.proofs.Names.{nat_tests, inl, inr, refl, sym, ap, subst, ◌∙◌, arith, cases_eq, cases_lt, eq-eqb, ne_eqb, last_is_of, pending-change, legal_is_in_order}
 use Rattle.rm_core.proofs.Names.{Elsewhere, elsewhere-none, elsewhere-change, elsewhere-undo, elsewhere-enter, elsewhere-commit, elsewhere-end}
 use Rattle.rm_core.proofs.Runs.{setting_of, seat_of, append_event, rest_event, kept_along, each_seat, seat_empty, run_kept}
 use Rattle.rm_core.proofs.Turns.{turn_elsewhere}
 use Rattle.rm_core.proofs.Sizes.{size_some}
 use Rattle.rm_events.specs.declared.events.Seen.TheVariants as sees
-
--- ---- what a stage says
 
 -- an outcome but those of no space, of a read and of a commit
 abbrev pub IsPlain : Outcome → Type 0
@@ -45,8 +43,6 @@ Says seens trace history txn (prepares aim on) = IsAimed aim
 Says seens trace history txn (compensates aim on) = IsAimed aim
 Says seens trace history txn other = Unit {0}
 
--- ---- the turns of other sessions
-
 pub among_more : (seen : Seen) (named : ℕ) (order : List ℕ) (txn : ℕ) → IsAmong order txn → IsAmong (ordered_with seen named order) txn
 among_more (sees.Commit lsn) named order txn is = inr is
 among_more other named order txn is = is
@@ -71,8 +67,6 @@ still_says seens trace e logged history txn forces pending says =
 still_says seens trace e logged history txn finishes pending says = durable_more logged history e trace txn says
 still_says seens trace e logged history txn other pending says = says
 
--- ---- the session's own turns
-
 -- a record of the log stands before its end
 logged_upto : (history : History) (act : Act) → IsInOrder history → IsLogged history act → lsn_of act ≤ newest_lsn history
 logged_upto [] act ordered is = absurd is
@@ -89,10 +83,7 @@ event_at pages s k seat turn = record { actor = Session (suc k); txn = txn_of se
 
 -- a part of the file ends after its start
 part_some : (pages from to : ℕ) → to ≡ part_end pages from → to < pages → 0 < to
-part_some pages from to is less = elim (cases_lt pages ((from / BLOCK_PAGES + 1) * BLOCK_PAGES)) [
-  | inl first ↦ omega (arith, is, less, first)
-  | inr second ↦ omega (arith, is, less, second)
-]
+part_some pages from to is less = grind (arith, nat_tests)
 
 module _ (format : Format) (pages : ℕ) (s : State) (k : ℕ) (seat : Seat) (seens : List Seen) (trace : List Event) where
   -- what its stage says before a turn, and what is said after it
@@ -147,8 +138,6 @@ module _ (format : Format) (pages : ℕ) (s : State) (k : ℕ) (seat : Seat) (se
   own_says (prepare aim last lsn) ordered may says = rw may.at at says
   own_says (compensate aim last lsn) ordered may says = rw may.0 at says
   own_says other ordered may says = tt
-
--- ---- along a run
 
 abbrev pub SaysOf : List Event → History → ℕ → Seat → Type 0
 SaysOf trace history k seat = Says (seens_of trace k) trace history seat.txn seat.stage
@@ -220,8 +209,6 @@ run_says = kept_along (λ o trace s. AllSay trace s) (record {
   rest = λ m actor seen run all may.
       event_says m.trace (rest_event actor seen) None m.state (rest_is_quiet {pages = (setting_of m).pages} m.state actor seen may).seens (λ txn. refl) all;
 })
-
--- ---- what a session is told
 
 -- what those outcomes tell: each page was handled, what the slot holds, the commit record is durable
 abbrev pub Told : ℕ → History → List Seen → List Event → ℕ → Option Outcome → Type 0

@@ -71,8 +71,6 @@ module _ (format : Format) (history : History) (txn : ℕ) where
   seated_so next saves stage below says =
       record { below = below; over = said_over stage says; active = said_active stage says; head = said_head stage says; ready = said_ready stage says }
 
--- ---- classes of stages
-
 -- none is over or owes an entry, and each claims the same
 abbrev pub IsPlain : Stage → Type 0
 IsPlain forces = ⊥
@@ -116,8 +114,6 @@ free (reads rid) is = record { says = λ f h t live. live; latches = λ page. ne
 free (alters rid slot) is = record { says = λ f h t live. live; latches = λ page. neither; plain = tt }
 free (rolls aim) is = record { says = λ f h t live. live; latches = λ page. neither; plain = tt }
 free other is = absurd is
-
--- ---- the turn
 
 -- what the session has to show where its transaction stays, of the record, the locks and the stage
 pub record Stays (format : Format) (s : State) (k : ℕ) (logged : Option Act) (locks : List Grant) (stage : Stage) : Type 0 where
@@ -420,8 +416,6 @@ module _ (format : Format) (s : State) (k : ℕ) (has : Turns format s k) where
   latch : (was : Stage) (page : ℕ) → seat.stage ≡ was → Latches was page → Latches seat.stage page
   latch was page at latches = subst (λ (st : Stage). Latches st page) (sym at) latches
 
-  -- ---- a change
-
   -- of a row id that no other transaction has a lock for: then the stage is to settle its page
   change_keeps : (locks : List Grant) (outcome : Outcome) (was : Stage) (rid : Rid) (before after : Slot) (lsn : ℕ) → seat.stage ≡ was → (IsOver was → ⊥)
       → Latches was rid.page → ((page : ℕ) → Latches was page → rid.page ≡ page) → slot_at (page_of s.history rid.page) rid.slot ≡ before → IsNext s.history lsn
@@ -478,8 +472,6 @@ module _ (format : Format) (s : State) (k : ℕ) (has : Turns format s k) where
       change_keeps s.grants (altered rid slot) (sets rid slot) rid old slot lsn may.at (λ h. h) refl (λ page h. h) refl may.placed
       (λ other differs alone. differs (has.kept.apart other seat.txn rid alone (alone_has s.grants seat.txn rid mine)))
       (altered_fits s.history seat.txn rid old slot lsn room refl may.fits) (no_locks s.grants has.kept.apart) mine
-
-  -- ---- other records
 
   -- one of no change record, which takes no lock and no latch
   log_keeps : (act : Act) (was stage : Stage) → seat.stage ≡ was → IsLegal format (act ∷ s.history) → Elsewhere s.history (act ∷ s.history) seat.txn (Latches seat.stage)

@@ -127,8 +127,6 @@ module _ (m : Setting) (s : State) (k lsn : ℕ) (among : k < length s.seats) (n
       (λ lacks. made on.at tt on.some
       (on.at, λ none. let never : Row old ≡ Vacant = sym is ∙ none in absurd cc, λ fits. lacks (subst Fit is fits), refl) tt)
 
-  -- ---- a rollback
-
   reaching_good : (op : Op) (aim : Aim) (pending : List Change) → On (rolls aim) → pending_of s.history seat.txn ≡ pending → AreFalling pending
       → last_of pending ≤ target_of aim → Made op (reaching aim lsn)
   reaching_good op (undoes_all outcome) [] on is falls low = made on.at tt on.some (on.at, is, next) tt
@@ -221,8 +219,6 @@ offset_is_next (newest ∷ before) true = inr refl
 pub moves_exist : MovesExist
 moves_exist m k op run among =
     let is = chosen_is_move m k (offset_after m.state.history false) op run among (offset_is_next m.state.history false) in (_, _, is.0, is.1)
-
--- ---- the run of a script
 
 session_moves : (closes : Bool) (p : Progress) (k offset : ℕ) (op : Option Op) → IsRun p.machine → k < length p.machine.state.seats
     → IsNext p.machine.state.history offset → wanted closes p k ≡ op → let move = option_map (chosen p.machine.opening.setting p.machine.state k offset) op in

@@ -9,8 +9,6 @@ use Rattle.rm_core.proofs.Names.{inl, inr, cond, leb, refl, ap, subst, arith, ca
 use Rattle.rm_core.proofs.Names.{Decides-not, Decides-and, Decides-or, Decides-eqb, get_or_past, same_place, is_same_place-refl}
 use Rattle.rm_core.proofs.Grants.{alone_has}
 
--- ---- tests
-
 -- what holds of both branches of a test
 pub if_else : {X A : Type 0} (b : Bool) (x y : X) (Q : X → Type 0) → Decides b A → (A → Q x) → ((A → ⊥) → Q y) → Q (cond b x y)
 if_else b x y Q decides yes_it no_it = cond_both b x y Q (λ is. yes_it (decides.0 is)) (λ is. no_it (not_from_Decides b decides is))
@@ -88,8 +86,6 @@ least_below : (test : ℕ → Bool) (P : ℕ → Type 0) → ((i : ℕ) → Deci
 least_below test P decides n below =
     least_by (In P 0 n) P _ (λ i is. is.2) (λ i is. (omega arith, omega (arith, below i is), is)) (first_is_least test P decides 0 n)
 
--- ---- latches
-
 pub barring_is_least : (s : State) (k page : ℕ) → IsLeast (Bars s k page) (first_barring s k page)
 barring_is_least s k page =
     let seat : ℕ → Seat = seat_at s.seats in
@@ -101,8 +97,6 @@ barring_is_least s k page =
       | inl below ↦ below
       | inr past ↦ elim (subst Barred (get_or_past s.seats j empty_seat past) bars.1) [ inl never ↦ absurd never | inr never ↦ absurd never.1 ]
     ])
-
--- ---- locks
 
 decides_blocks : (grants : List Grant) (other : ℕ) (rid : Rid) (alone : Bool) → Decides (blocks_it grants other rid alone) (Blocks grants other rid alone)
 decides_blocks [] other rid true = decides_never
@@ -131,8 +125,6 @@ pub blocker_is_least : (grants : List Grant) (txn : ℕ) (rid : Rid) (alone : Bo
 blocker_is_least grants txn rid alone = least_below _ (Keeps grants txn rid alone)
     (λ other. Decides-and _ _ (Decides-not _ (Decides-eqb other txn)) (decides_blocks grants other rid alone))
     (past_locks grants) (λ other keeps. (has_below grants other rid (blocks_has grants other rid alone keeps.1)).0)
-
--- ---- the slot for a row
 
 decides_held : (grants : List Grant) (txn page number : ℕ)
     → Decides (is_some (blocker grants txn (record { page = page; slot = number }) true)) (IsHeld grants txn page number)

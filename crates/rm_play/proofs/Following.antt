@@ -14,8 +14,6 @@ use Rattle.rm_events.specs.declared.events.Seen.TheVariants as sees
 use Rattle.rm_events.specs.declared.operations.Op.TheVariants as ops
 use Rattle.rm_play.proofs.Doing as doing
 
--- ---- what holds of a session
-
 -- It goes on: its finished operations are first lines; the lines left are the rest of them, or none where it was stopped; it is at the next one, or at an abort.
 record Going (closes : Bool) (lines : List Line) (done : List Outcome) (left : List Line) (names : List (Option Rid)) (stage : Stage) : Type 0 where
   rest : List Line
@@ -40,8 +38,6 @@ stands_follows : (closes : Bool) (lines : List Line) (done : List Outcome) (left
     → FollowsLines lines done ⊎ ((closes ≡ true) × IsAborted lines done)
 stands_follows closes lines done left names seat (inl going) = inl (going.rest, going.bound, going.follows)
 stands_follows closes lines done left names seat (inr closed) = inr (closed.closing, closed.aborted)
-
--- ---- one turn of it
 
 closes_true : (closes : Bool) (txn : ℕ) (op : Op) (names : List (Option Rid)) → op_at closes [] names txn ≡ Some op → (closes ≡ true) × (op ≡ ops.Abort) × (txn ≡ 0 → ⊥)
 closes_true false txn op names is = absurd cc
@@ -110,8 +106,6 @@ closed_wants_none : (closes : Bool) (lines : List Line) (done : List Outcome) (l
 closed_wants_none closes lines done left names txn op closed is =
     (closes_true closes txn op names (subst (λ (l : List Line). op_at closes l names txn ≡ Some op) closed.none is)).2 closed.free
 
--- ---- lists of lines and of names
-
 put_at : {A : Type 0} (l : List (List A)) (k : ℕ) (v : List A) → (k < length l) ⊎ (v ≡ slice_index_or l k []) → slice_index_or (set l k v) k [] ≡ v
 put_at [] k v (inl below) = absurd (omega (arith, below))
 put_at [] k v (inr same) = sym same
@@ -142,8 +136,6 @@ names_put : (outcome : Option Outcome) (l : List (List (Option Rid))) (lines : L
 names_put outcome l lines k (line ∷ left) sized is = let below : k < length lines = below_length lines k line left is in inl (omega (arith, sized, below))
 names_put None l lines k [] sized is = inr refl
 names_put (Some outcome) l lines k [] sized is = inr refl
-
--- ---- what holds of the run
 
 record Good (closes : Bool) (scripts : List (List Line)) (p : Progress) : Type 0 where
   run : IsRun p.machine
@@ -178,8 +170,6 @@ advanced_good closes scripts p k move state seat good goes own =
             goes.done j, if_different k j _ _ differs) (good.each j)
       ];
     }
-
--- ---- moves
 
 same_both : (b : Bool) (l : List Outcome) → cond b l l ≡ l
 same_both true l = refl
@@ -271,8 +261,6 @@ actors_good : (closes : Bool) (scripts : List (List Line)) (actors : List Actor)
 actors_good closes scripts [] old new good by = subst (Good closes scripts) (sym by) good
 actors_good closes scripts (actor ∷ actors) old new good by =
     actors_good closes scripts actors by.1 new (actor_good closes scripts old by.1 actor by.0 good by.2 (no_stop closes by.0 by.3)) by.4
-
--- ---- the run
 
 index-replicate : {A : Type 0} (n k : ℕ) (item : List A) → k < n → slice_index_or (replicate n item) k [] ≡ item
 index-replicate zero k item below = absurd (omega (arith, below))

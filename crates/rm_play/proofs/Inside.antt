@@ -15,8 +15,6 @@ pub record Inside (pages : ℕ) (s : State) : Type 0 where
   pub within : (k : ℕ) → Within pages (seat_at s.seats k).stage
   pub ids : s.next ≤ 2 ^ 32
 
--- ---- turns
-
 latch_within : (pages : ℕ) (s : State) (seat : Seat) (stage : Stage) (page : ℕ) → Within pages stage → Wants s seat stage page
     → Within pages (latched stage page)
 latch_within pages s seat (wants row on) page within is = subst (λ (n : ℕ). n < pages) is within
@@ -34,8 +32,6 @@ turn_inside format pages s k seat (scan row from to true) within ids may = (omeg
 turn_inside format pages s k seat (scan row from to false) within ids may = (tt, ids)
 turn_inside format pages s k seat (latch page) within ids may = (latch_within pages s seat seat.stage page within may.wants_it, ids)
 turn_inside format pages s k seat other within ids may = (tt, ids)
-
--- ---- moves
 
 effect_inside : (pages : ℕ) (s : State) (k : ℕ) (e : Effect) → Inside pages s → k < length s.seats → Within pages e.seat.stage × (e.next ≤ 2 ^ 32)
     → Inside pages (with_effect s k e)

@@ -149,8 +149,6 @@ turns_come_nearer m k op turn new run step takes =
     let nears = step_nears m.opening.setting.format m.opening.setting.pages m.state new k op turn (run_kept m run) ((run_inside m run).within k) step in
     record { busy = nears.0; begins = λ at. nears.1 at (subst (λ (st : Stage). TakesAt st turn op) at takes) }
 
--- ---- over many moves
-
 -- another session's turn leaves the session's turns
 step_leaves : (format : Format) (pages : ℕ) (old new : State) (j k : ℕ) (turn : Turn) → Kept format old → Step format pages old j turn new → (j ≡ k → ⊥)
     → turns_left pages new.history (seat_at new.seats k) ≡ turns_left pages old.history (seat_at old.seats k)

@@ -66,8 +66,6 @@ module _ (m : Setting) (s : State) (k : ℕ) (op : Op) (bare : (seat_at s.seats 
   skip_is ops.Begin at same is = asked_is is at (λ idles. same) refl
   skip_is o at same is = outside_is at same is refl
 
-  -- ---- scans
-
   abbrev Open : List ℕ → ℕ → Type 0
   Open row page = category_bytes m.format * entry_of s.history page + length row ≤ CAPACITY
 
@@ -82,8 +80,6 @@ module _ (m : Setting) (s : State) (k : ℕ) (op : Op) (bare : (seat_at s.seats 
   scan_is (seeks sought on) row from at some goes inserts is =
       at_stage at (ap (turns k) (is ∙ ap (scanning m s row) (sym goes.1) ∙ ap (λ (r : List ℕ). scanning m s r on) (sym goes.0)))
   scan_is other row from at some never inserts is = absurd never
-
-  -- ---- locks
 
   asks_it : (o : Op) (rid : Rid) (alone : Bool) → Asks o rid alone → locking m s seat o rid alone ≡ asking m s k 0 o
   asks_it (ops.Read place) rid alone asks = rw (← asks.0, asks.1) refl
@@ -101,8 +97,6 @@ module _ (m : Setting) (s : State) (k : ℕ) (op : Op) (bare : (seat_at s.seats 
 
   blocked : {rid : Rid} {alone : Bool} {holder : ℕ} → IsBlockedBy s seat rid alone holder → IsLeast (Keeps s.grants seat.txn rid alone) (Some holder)
   blocked is = ((is.other, is.blocks), λ lower below keeps. is.least lower below keeps.0 keeps.1)
-
-  -- ---- pages
 
   wanting : (stage : Stage) (page : ℕ) → seat.stage ≡ stage → Wants s seat stage page → Is (latching_at s k page)
   wanting (wants row on) page at is = at_stage at (ap (latching_at s k) (sym is))
@@ -145,8 +139,6 @@ module _ (m : Setting) (s : State) (k : ℕ) (op : Op) (bare : (seat_at s.seats 
       → turns k (back number lsn) ≡ rolling s k 0 (returns number lsn) pending
   back_is number lsn [] below = refl
   back_is number lsn (last ∷ rest) below = no_it _ (Decides-ltb lsn last.lsn) (λ above. let less : last.lsn ≤ lsn = below last rest refl in omega arith)
-
-  -- ---- each turn
 
   only : (turn : Turn) → (seat.stage ≡ idle → Takes turn op) → IsSeated seat turn → May m.format m.pages s k seat turn → need (erased turn) ≤ m.limit
       → Is (turns k (erased turn))
@@ -212,8 +204,6 @@ module _ (m : Setting) (s : State) (k : ℕ) (op : Op) (bare : (seat_at s.seats 
   spent_is : (last : ℕ) → seat.stage ≡ idle → op ≡ ops.Begin → IsSpent s k → last + 1 ≡ s.next → Is (answered k (spent last))
   spent_is last at same is before = let most : last ≡ 2 ^ 32 - 1 = omega (arith, is.1, before) in
       outside_is at same is.0 (ap (λ (n : ℕ). answered k (spent n)) most ∙ yes_it _ (Decides-eqb s.next (2 ^ 32)) is.1)
-
--- ---- moves
 
 -- the move that is chosen where the log has room: for a move that is refused room, its turn
 abbrev Chooses : Move → Move → Type 0
