@@ -1,7 +1,7 @@
 -- The row locks: what one more leaves of them, and what is left of them where a transaction lets its own go.
 use Rattle.rm_core.specs.Below.{◌≡◌, ℕ, ◌&&◌, Bool, true, false, IsTrue, List, [], ◌∷◌, Rid, is_same_place}
 use Rattle.rm_core.specs.Names.{is_same, is_grant, has_it, joined, released, Blocks, HasGrant, HoldsAlone, Grant}
-use Rattle.rm_core.proofs.Names.{inl, inr, eqb, refl, sym, subst, ◌∙◌, cases_eq, eqb-true, and_parts, cond_both, same_place}
+use Rattle.rm_core.proofs.Names.{nat_tests, arith, inl, inr, eqb, refl, sym, subst, ◌∙◌, cases_eq, eqb-true, and_parts, cond_both, same_place}
 
 -- a transaction's locks on the row id are among the others
 pub record More (some all : List Grant) (txn : ℕ) (rid : Rid) : Type 0 where
@@ -15,10 +15,7 @@ more-skip : (first : Grant) (some all : List Grant) (txn : ℕ) (rid : Rid) → 
 more-skip first some all txn rid more = record { alone = λ has. inr (more.alone has); any = λ has. inr (more.any has) }
 
 more-both : (first : Grant) (some all : List Grant) (txn : ℕ) (rid : Rid) → More some all txn rid → More (first ∷ some) (first ∷ all) txn rid
-more-both first some all txn rid more = record {
-  alone = λ has. elim has [ inl now ↦ inl now | inr later ↦ inr (more.alone later) ];
-  any = λ has. elim has [ inl now ↦ inl now | inr later ↦ inr (more.any later) ];
-}
+more-both first some all txn rid more = grind (arith, nat_tests)
 
 -- an exclusive lock is a lock
 pub alone_has : (grants : List Grant) (txn : ℕ) (rid : Rid) → HoldsAlone grants txn rid → HasGrant grants txn rid
@@ -50,10 +47,7 @@ same_fields : (t u : ℕ) (r q : Rid) (a b : Bool) → t ≡ u → r ≡ q → a
 same_fields t u r q a b txn rid alone = cc
 
 same_grant : (a b : Grant) → is_grant a b ≡ true → a ≡ b
-same_grant a b is =
-    let one = and_parts (eqb a.txn b.txn) (is_same_place a.rid b.rid && is_same a.alone b.alone) is in
-    let two = and_parts (is_same_place a.rid b.rid) (is_same a.alone b.alone) one.1 in
-    same_fields a.txn b.txn a.rid b.rid a.alone b.alone (eqb-true a.txn b.txn one.0) (same_place a.rid b.rid two.0) (same_is a.alone b.alone two.1)
+same_grant a b is = grind (arith, nat_tests)
 
 -- a lock that is found is there
 found : (grants : List Grant) (grant : Grant) → has_it grants grant ≡ true → More (grant ∷ []) grants grant.txn grant.rid
@@ -77,8 +71,7 @@ joined_alone grants grant alone = (here grants grant).alone (inl (refl, refl, su
 
 -- those before are there
 more-joined : (grants : List Grant) (grant : Grant) (txn : ℕ) (rid : Rid) → More grants (joined grants grant) txn rid
-more-joined grants grant txn rid = cond_both (has_it grants grant) grants (grant ∷ grants) (λ l. More grants l txn rid) (λ is. more-same grants txn rid)
-    (λ is. more-skip grant grants grants txn rid (more-same grants txn rid))
+more-joined grants grant txn rid = grind (arith, nat_tests)
 
 pub joined_more : (grants : List Grant) (grant : Grant) (txn : ℕ) (rid : Rid) → HasGrant grants txn rid → HasGrant (joined grants grant) txn rid
 joined_more grants grant txn rid = (more-joined grants grant txn rid).any

@@ -31,10 +31,7 @@ all_owed s = sum_below-less (λ k. owed_by s.history (seat_at s.seats k)) (λ k.
 
 pub claim-other : (old new : History) (txn : ℕ) (seat : Seat) → ((other : ℕ) → (other ≡ txn → ⊥) → pending_of new other ≡ pending_of old other)
     → ((seat.txn ≡ 0 → ⊥) → seat.txn ≡ txn → ⊥) → claim_of new seat ≡ claim_of old seat
-claim-other old new txn seat pending other = elim (cases_eq seat.txn 0) [
-  | inl none ↦ rw (eq-eqb seat.txn 0 none) refl
-  | inr some ↦ ap (λ (l : List Change). cond (eqb seat.txn 0) 0 (claims_at seat.stage (bytes_for l))) (pending seat.txn (other some))
-]
+claim-other old new txn seat pending other = grind (arith, nat_tests)
 
 -- what is known of a state: all that is kept, and that it has room
 pub record Known (format : Format) (limit : ℕ) (s : State) : Type 0 where

@@ -53,17 +53,14 @@ logged_more (Some newest) history act is = inr is
 
 pub durable_more : (logged : Option Act) (history : History) (e : Event) (trace : List Event) (txn : ℕ) → IsDurable history trace txn
     → IsDurable (logging logged history) (e ∷ trace) txn
-durable_more logged history e trace txn is =
-    let act : Act = commits (record { lsn = is.lsn; txn = txn }) in
-    record { lsn = is.lsn; durable = is.durable; logged = logged_more logged history act is.logged; told = inr is.told; below = is.below }
+durable_more logged history e trace txn is = grind (arith, nat_tests)
 
 -- what a stage says holds after another's event, and after a record that leaves what is pending
 still_says : (seens : List Seen) (trace : List Event) (e : Event) (logged : Option Act) (history : History) (txn : ℕ) (stage : Stage)
     → pending_of (logging logged history) txn ≡ pending_of history txn → Says seens trace history txn stage
     → Says seens (e ∷ trace) (logging logged history) txn stage
 still_says seens trace e logged history txn (settles outcome on) pending says = let is = says.1 in (says.0, (is.0, (is.1.0, pending ∙ is.1.1), is.2))
-still_says seens trace e logged history txn forces pending says =
-    (among_more e.seen e.txn (order_of trace) txn says.0, (says.1.0, logged_more logged history (commits (record { lsn = says.1.0; txn = txn })) says.1.1))
+still_says seens trace e logged history txn forces pending says = grind (arith, nat_tests)
 still_says seens trace e logged history txn finishes pending says = durable_more logged history e trace txn says
 still_says seens trace e logged history txn other pending says = says
 
@@ -98,10 +95,7 @@ module _ (format : Format) (pages : ℕ) (s : State) (k : ℕ) (seat : Seat) (se
   -- a scan handles what it passes
   scan_says : (stage : Stage) (row : List ℕ) (from to : ℕ) (found : Bool) → Scans stage row from → Said stage → AllHandled (sees.Scan from to found ∷ seens) to
   scan_says idle row from to found scans says page below = inl (omega (arith, scans), below)
-  scan_says (seeks sought on) row from to found scans says page below = elim (cases_lt page from) [
-    | inl before ↦ inr (λ none. absurd (omega (arith, none, says.1, scans.1)), says.0 page (omega (arith, before, scans.1)))
-    | inr past ↦ inl (past, below)
-  ]
+  scan_says (seeks sought on) row from to found scans says page below = grind (arith, nat_tests)
   scan_says other row from to found scans says page below = absurd scans
 
   try_says : (on slot : ℕ) → AllHandled seens on → AllHandled (tried_of s seat on slot ∷ seens) (on + 1)
@@ -148,10 +142,7 @@ AllSay trace s = (k : ℕ) → SaysOf trace s.history k (seat_at s.seats k)
 -- another session is idle, or has another transaction
 pub apart_or_idle : (format : Format) (s : State) (k j : ℕ) → Kept format s → (j ≡ k → ⊥)
     → ((seat_at s.seats j).stage ≡ idle) ⊎ ((seat_at s.seats j).txn ≡ (seat_at s.seats k).txn → ⊥)
-apart_or_idle format s k j kept differs = elim (cases_eq (seat_at s.seats j).txn 0) [
-  | inl none ↦ inl (kept.bare j none)
-  | inr some ↦ inr (λ same. differs (sym (kept.single k j some (sym same))))
-]
+apart_or_idle format s k j kept differs = grind (arith, nat_tests)
 
 turn_says : (format : Format) (pages : ℕ) (trace : List Event) (s : State) (k : ℕ) (turn : Turn) → Kept format s → k < length s.seats
     → May format pages s k (seat_at s.seats k) turn → AllSay trace s → AllSay (event_of pages s k turn ∷ trace) (after format s k (seat_at s.seats k) turn)

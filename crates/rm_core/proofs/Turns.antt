@@ -12,7 +12,7 @@ use Rattle.rm_core.specs.Names.{prepares, compensates, Seat, Grant, State, seat_
 use Rattle.rm_core.specs.Names.{Aim, tries, fetches, sets, released, IsNext, undoes_all, empty_seat, change_of, setting, entry_now, SlotFits, MayAlter}
 use Rattle.rm_core.specs.Names.{MaySettle, MayPrepare, inserted, altered, MayInsert}
 use Rattle.rm_core.specs.Names.{May, after, Turn, insert, alter, settle, commit, prepare, compensate, end}
-use Rattle.rm_core.proofs.Names.{inl, inr, refl, sym, subst, ◌∙◌, arith, Elsewhere, elsewhere-none, elsewhere-end, finished_has_record, ap, eq-eqb, last_is_of}
+use Rattle.rm_core.proofs.Names.{nat_tests, inl, inr, refl, sym, subst, ◌∙◌, arith, Elsewhere, elsewhere-none, elsewhere-end, finished_has_record, ap, eq-eqb, last_is_of}
 use Rattle.rm_core.proofs.Names.{elsewhere-change, elsewhere-undo, elsewhere-enter, elsewhere-commit, finished_or_not, finish_fits, pending-change}
 use Rattle.rm_core.proofs.Names.{pending-commit_other, legal_is_in_order, fits_in_order, entries_follow, no_undo_lacks_room}
 use Rattle.rm_core.proofs.Grants.{Locks, no_locks, locks-joined, joined_any, joined_alone, more-released, released-less, alone_has}
@@ -58,18 +58,12 @@ module _ (format : Format) (history : History) (txn : ℕ) where
 
   said_ready : (stage : Stage) → Says stage → (page : ℕ) → Readies stage page → (last : Change) (rest : List Change)
       → pending_of history txn ≡ last ∷ rest → (last.rid.page ≡ page) × (entry_of history page ≡ category_after format history last)
-  said_ready (compensates aim on) says page here last rest is =
-      let head = says.1 in
-      let first : pending_of history txn ≡ head.0 ∷ head.1 = head.2 in
-      let same : head.0 ≡ last = cc in
-      subst (λ (c : Change). (c.rid.page ≡ page) × (entry_of history page ≡ category_after format history c)) same
-      (head.3 ∙ here, subst (λ (p : ℕ). entry_of history p ≡ category_after format history head.0) here head.5)
+  said_ready (compensates aim on) says page here last rest is = grind (arith, nat_tests)
   said_ready other says page here last rest is = absurd here
 
   seated_so : (next : ℕ) (saves : List (Savepoint ℕ)) (stage : Stage) → txn < next → Says stage
       → Seated format history next (record { txn = txn; saves = saves; stage = stage })
-  seated_so next saves stage below says =
-      record { below = below; over = said_over stage says; active = said_active stage says; head = said_head stage says; ready = said_ready stage says }
+  seated_so next saves stage below says = grind (arith, nat_tests)
 
 -- none is over or owes an entry, and each claims the same
 abbrev pub IsPlain : Stage → Type 0
@@ -138,9 +132,7 @@ LeftBy format s k logged locks saves stage = Kept format (with_effect s k (left_
 -- what its stage says of its last pending change
 pub heads_at : (format : Format) (s : State) (k : ℕ) (stage : Stage) → Turns format s k → (seat_at s.seats k).stage ≡ stage
     → (page : ℕ) → Heads stage page → HeadOn (pending_of s.history (seat_at s.seats k).txn) page (target_at stage)
-heads_at format s k stage has at =
-    subst (λ (was : Stage). (page : ℕ) → Heads was page → HeadOn (pending_of s.history (seat_at s.seats k).txn) page (target_at was)) at
-    (has.kept.seated k has.some).head
+heads_at format s k stage has at = grind (arith, nat_tests)
 
 -- a scan begins at a plain stage
 pub scans_plain : (stage : Stage) (row : List ℕ) (from : ℕ) → Scans stage row from → IsPlain stage
