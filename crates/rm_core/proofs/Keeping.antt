@@ -26,8 +26,7 @@ claim_owed : (history : History) (seat : Seat) → claim_of history seat ≤ owe
 claim_owed history seat = let less = claims_owed seat.stage (bytes_for (pending_of history seat.txn)) in grind (arith, nat_tests)
 
 pub all_owed : (s : State) → claims s ≤ owed s
-all_owed s = sum_below-less (λ k. owed_by s.history (seat_at s.seats k)) (λ k. claim_of s.history (seat_at s.seats k)) (length s.seats)
-    (λ k. claim_owed s.history (seat_at s.seats k))
+all_owed s = grind (arith, nat_tests, sum_below-less, claim_owed)
 
 pub claim-other : (old new : History) (txn : ℕ) (seat : Seat) → ((other : ℕ) → (other ≡ txn → ⊥) → pending_of new other ≡ pending_of old other)
     → ((seat.txn ≡ 0 → ⊥) → seat.txn ≡ txn → ⊥) → claim_of new seat ≡ claim_of old seat

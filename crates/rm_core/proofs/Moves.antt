@@ -4,7 +4,7 @@ use Rattle.rm_core.specs.Below.{HasChange, IsLegal}
 use Rattle.rm_core.specs.Names.{Effect, logging, goes_to, with_effect, target_at, Owes, Readies, Locked, HeadOn, Seated, IsRight, Kept, HoldsAlone, Latches}
 use Rattle.rm_core.specs.Names.{Looks, Stage, idle, reads, fetches, alters, sets, tries, settles, prepares, compensates, Seat, Grant, State, seat_at}
 use Rattle.rm_core.specs.Names.{empty_seat}
-use Rattle.rm_core.proofs.Names.{inl, inr, set, sym, ap, subst, ◌∙◌, arith, cases_eq, get_or-set_same, get_or-set_other, set-get_or, Elsewhere}
+use Rattle.rm_core.proofs.Names.{nat_tests, inl, inr, set, sym, ap, subst, ◌∙◌, arith, cases_eq, get_or-set_same, get_or-set_other, set-get_or, Elsewhere}
 use Rattle.rm_core.proofs.Grants.{More, AreApart}
 
 -- a page is latched alone, or it is not
@@ -84,10 +84,7 @@ module _ (format : Format) (s : State) (k : ℕ) (e : Effect) (txn : ℕ) (kept 
 
   -- what holds of its seat, and of the others as they were, holds of each
   each : (P : Seat → Type 0) (j : ℕ) → (j ≡ k → P e.seat) → ((j ≡ k → ⊥) → P (old j)) → P (news j)
-  each P j here others = elim (cases_eq j k) [
-    | inl is ↦ subst P (sym (ap news is ∙ get_or-set_same s.seats k e.seat empty_seat among)) (here is)
-    | inr not ↦ subst P (sym (get_or-set_other s.seats k j e.seat empty_seat not)) (others not)
-  ]
+  each P j here others = grind (arith, nat_tests, cases_eq, get_or-set_same, here, get_or-set_other)
 
   -- what is known of another session stays known
   still : (j : ℕ) → (j ≡ k → ⊥) → ((old j).txn ≡ 0 → ⊥) → Seated format new e.next (old j)

@@ -261,10 +261,7 @@ cost_shared m run =
     omega (arith, pending, losers, sum_both (λ k. share txn_in weight (txn k) (all_pending history)) (λ k. share itself ten (txn k) (losers_of history)) seats)
 
 cost_claimed : (m : Machine) → IsRun m → cost m.state.history ≤ claims m.state
-cost_claimed m run =
-    let claimed : ℕ → ℕ = λ k. claim_of m.state.history (seat_of m k) in
-    let costed : ℕ → ℕ = λ k. cost_of m.state.history (seat_of m k).txn in
-    omega (arith, cost_shared m run, sum_below-less claimed costed (length m.state.seats) (λ k. each_claims m k run))
+cost_claimed m run = grind (arith, nat_tests, seat_of, cost_shared, sum_below-less, each_claims)
 
 active_room : (m : Machine) (k : ℕ) → IsRun m → IsActive m k → end_of m.state.history + (cost m.state.history + 24) ≤ (setting_of m).limit
 active_room m k run active =

@@ -184,11 +184,7 @@ rest_is_quiet s actor seen may = absurd may
 event_says : (trace : List Event) (e : Event) (logged : Option Act) (s : State) → ((k : ℕ) (his other : List Seen) → of_session e.actor k his other ≡ other)
     → ((txn : ℕ) → pending_of (logging logged s.history) txn ≡ pending_of s.history txn) → AllSay trace s
     → AllSay (e ∷ trace) (record s { history = logging logged s.history })
-event_says trace e logged s none pending all j =
-    let its : Seat = seat_at s.seats j in
-    let same : seens_of trace j ≡ seens_of (e ∷ trace) j = sym (none j (e.seen ∷ seens_of trace j) (seens_of trace j)) in
-    subst (λ (l : List Seen). Says l (e ∷ trace) (logging logged s.history) its.txn its.stage) same
-    (still_says (seens_of trace j) trace e logged s.history its.txn its.stage (pending its.txn) (all j))
+event_says trace e logged s none pending all j = grind (arith, nat_tests, none, still_says)
 
 -- So each session's stage says it in each run.
 pub run_says : (m : Machine) → IsRun m → AllSay m.trace m.state

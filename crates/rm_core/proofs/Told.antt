@@ -4,7 +4,7 @@ use Rattle.rm_core.specs.Below.{undo_for, Seen, ◌≡◌, [], Option, Some, Non
 use Rattle.rm_core.specs.Names.{change_of, setting, entry_now, after, Event, TracesTellLogs, TellsLog, May, seens_of, Seat, State, Turn, insert, alter, settled}
 use Rattle.rm_core.specs.Names.{settle, commit, prepare, compensate, end, IsForcedFor, IsDurable, effect, logging, event_of, AcknowledgedIsDurable, order_of}
 use Rattle.rm_core.specs.Names.{IsAmong, IsAcknowledged, committed, Machine, IsRun, no_space, EndsSearch, NoSpaceIsExact, ReadsAreExact}
-use Rattle.rm_core.proofs.Names.{inl, inr, refl, sym, ap, subst, eq-eqb}
+use Rattle.rm_core.proofs.Names.{arith, nat_tests, inl, inr, refl, sym, ap, subst, eq-eqb}
 use Rattle.rm_core.proofs.Runs.{setting_of, seat_of, kept_along, append_event, rest_event, turned}
 use Rattle.rm_core.proofs.Stages.{Says, event_at, IsQuiet, rest_is_quiet, run_says, among_more, durable_more, Told, turn_told, AllHandled, ends_told}
 
@@ -111,8 +111,7 @@ last_tells m newest before run is = subst (TellsLast (setting_of m).pages m.stat
 
 only : (pages : ℕ) (history : History) (newest : Event) (before : List Event) (k : ℕ) (row : List ℕ) → LastTells pages history newest before
     → newest.actor ≡ Session (suc k) → newest.done ≡ Some (no_space row) → AllHandled (seens_of (newest ∷ before) k) pages
-only pages history newest before k row tells actor done =
-    subst (λ (j : ℕ). AllHandled (seens_of (newest ∷ before) j) pages) (tells.only k actor) (rw done at tells.told)
+only pages history newest before k row tells actor done = grind (arith, nat_tests)
 
 pub no_space_is_exact : NoSpaceIsExact
 no_space_is_exact = record {

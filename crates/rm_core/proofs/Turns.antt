@@ -244,12 +244,7 @@ module _ (format : Format) (s : State) (k : ℕ) (has : Turns format s k) where
 
   -- a page that it has latched and does not owe is right
   pub right_here : (was : Stage) (page : ℕ) → seat.stage ≡ was → (Owes was page → ⊥) → Latches seat.stage page → IsRight format s.history page
-  right_here was page at not latches = elim (has.kept.owing page) [
-    | inl right ↦ right
-    | inr owes ↦
-        let is : owes.0 ≡ k = has.kept.latched owes.0 k page latches (inl (owes_latches (seat_at s.seats owes.0).stage page owes.1)) in
-        absurd (not (subst (λ (st : Stage). Owes st page) at (subst (λ (j : ℕ). Owes (seat_at s.seats j).stage page) is owes.1)))
-  ]
+  right_here was page at not latches = grind (arith, nat_tests, latches, owes_latches)
 
   -- nothing is logged
   pub quiet : (locks : List Grant) (saves : List (Savepoint ℕ)) (stage : Stage) → Locks s.grants locks → Locked locks seat.txn stage
