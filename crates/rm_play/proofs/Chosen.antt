@@ -9,7 +9,7 @@ use Rattle.rm_core.specs.Names.{State, seat_at, Turn, begin, scan, scan_last, la
 use Rattle.rm_play.specs.{TakesAt, MayTake, IsMoveFor, Progress, wanted, ByActor, offset_after, move_at, after_move, IsActor, TurnsAreMade, slot_for, found_at}
 use Rattle.rm_play.specs.{scanning, latching, latching_at, lock_of, locking_against, locking, altering_to, reaching, rolling, preparing, compensating, outside}
 use Rattle.rm_play.specs.{asking, chosen_at, chosen, state_after, ChosenIsMove, MovesExist}
-use Rattle.rm_core.proofs.Names.{inl, inr, leb, cond, refl, sym, ap, subst, ◌∙◌, arith, Decides-and, Decides-eqb, Decides-ltb, pending_falls, legal_is_in_order}
+use Rattle.rm_core.proofs.Names.{nat_tests, inl, inr, leb, cond, refl, sym, ap, subst, ◌∙◌, arith, Decides-and, Decides-eqb, Decides-ltb, pending_falls, legal_is_in_order}
 use Rattle.rm_core.proofs.Runs.{run_kept}
 use Rattle.rm_core.proofs.Sizes.{next_within, next_after}
 use Rattle.rm_core.proofs.Turns.{heads_at}
@@ -44,21 +44,13 @@ module _ (m : Setting) (s : State) (k lsn : ℕ) (among : k < length s.seats) (n
 
   made : {op : Op} {stage : Stage} {turn : Turn} → seat.stage ≡ stage → TakesAt stage turn op → IsSeated seat turn
       → May m.format m.pages s k seat turn → HasRoomFor m.limit s turn (after m.format s k seat turn) → Made op turn
-  made at takes seated may room = record {
-    is_move = (refl, taken at takes seated may, room);
-    moves = (record { among = among; seated = seated; may = may; new_is = refl }, room);
-  }
+  made at takes seated may room = grind (arith, nat_tests)
 
   -- where the log has room, or has none from the offset on
   if_fits : (op : Op) {stage : Stage} (turn : Turn) (need : ℕ) → seat.stage ≡ stage → TakesAt stage turn op → IsSeated seat turn
       → May m.format m.pages s k seat turn → (need ≤ m.limit → HasRoomFor m.limit s turn (after m.format s k seat turn))
       → (m.limit < need → Lacks m.limit lsn turn (after m.format s k seat turn)) → Good op (cond (leb need m.limit) (turns k turn) (answered k (log_full lsn)))
-  if_fits op turn need at takes seated may room lacks = if_else _ _ _ (Good op) (decides_le need m.limit)
-      (λ fits. made at takes seated may (room fits))
-      (λ full. let less : m.limit < need = omega arith in record {
-        is_move = (refl, (turn, taken at takes seated may, next, lacks less));
-        moves = (among, (record { turn = turn; next = next; seated = seated; may = may; lacks = lacks less }, refl));
-      })
+  if_fits op turn need at takes seated may room lacks = grind (arith, nat_tests)
 
   -- ---- a latch, and the scan of an insert
 
@@ -131,8 +123,7 @@ module _ (m : Setting) (s : State) (k lsn : ℕ) (among : k < length s.seats) (n
       → last_of pending ≤ target_of aim → Made op (reaching aim lsn)
   reaching_good op (undoes_all outcome) [] on is falls low = made on.at tt on.some (on.at, is, next) tt
   reaching_good op (undoes_all outcome) (last ∷ rest) on is falls low = absurd (omega (arith, falls.0))
-  reaching_good op (returns number to) pending on is falls low =
-      made on.at tt on.some (on.at, λ last rest so. subst (λ (changes : List Change). last_of changes ≤ to) (sym is ∙ so) low) tt
+  reaching_good op (returns number to) pending on is falls low = grind (arith, nat_tests)
 
   rolling_good : (op : Op) (aim : Aim) (list : List Change) → On (rolls aim) → pending_of s.history seat.txn ≡ list → Good op (rolling s k lsn aim list)
   rolling_good op aim [] on is = reaching_good op aim [] on is tt (omega arith)

@@ -5,7 +5,7 @@ use Rattle.rm_core.specs.Names.{effect, after, staged, outcome_of, Kept, Answer,
 use Rattle.rm_core.specs.Names.{onto, Outcome, reply_of, Opening, IsOpening, IsRun, Stage, idle, Seat, State, seat_at}
 use Rattle.rm_play.specs.{IsMoveFor, finished_of, Follows, FollowsLines, IsAborted, IsRunOf, ScriptsRun, Progress, lines_at, names_at, no_names, begun, op_at}
 use Rattle.rm_play.specs.{wanted, finished_by, left_with, left_after, names_with, advanced, kept_up, ByActor, IsStop, GoesOn, ByActors}
-use Rattle.rm_core.proofs.Names.{inl, inr, cond, eqb, set, refl, sym, ap, subst, ◌∙◌, arith, cases_eq, get_or-set_other, length-set, length-replicate, if_equal}
+use Rattle.rm_core.proofs.Names.{nat_tests, inl, inr, cond, eqb, set, refl, sym, ap, subst, ◌∙◌, arith, cases_eq, get_or-set_other, length-set, length-replicate, if_equal}
 use Rattle.rm_core.proofs.Names.{if_different}
 use Rattle.rm_core.proofs.Moves.{Moved, moved-set}
 use Rattle.rm_core.proofs.Runs.{moves_run, run_kept, seat_empty}
@@ -90,21 +90,12 @@ turn_stands closes lines done (line ∷ left) names txn stage (Some outcome) sea
 -- a stop, where sessions are closed
 stop_stands : (closes : Bool) (lines : List Line) (done : List Outcome) (left : List Line) (names new : List (Option Rid)) (stage : Stage) (seat : Seat) → closes ≡ true
     → Going closes lines done left names stage → seat.stage ≡ idle → Stands closes lines done [] new seat
-stop_stands closes lines done left names new stage seat closing going at = inl (record {
-  rest = going.rest;
-  bound = going.bound;
-  follows = going.follows;
-  left_is = inr (closing, refl);
-  named = λ line others cut. absurd cc;
-  at_line = λ line others cut. absurd cc;
-  at_end = λ none. subst (λ (st : Stage). Doing st ops.Abort) (sym at) tt;
-})
+stop_stands closes lines done left names new stage seat closing going at = grind (arith, nat_tests)
 
 -- a closed session makes no turn
 closed_wants_none : (closes : Bool) (lines : List Line) (done : List Outcome) (left : List Line) (names : List (Option Rid)) (txn : ℕ) (op : Op) → Closed closes lines done left txn
     → op_at closes left names txn ≡ Some op → ⊥
-closed_wants_none closes lines done left names txn op closed is =
-    (closes_true closes txn op names (subst (λ (l : List Line). op_at closes l names txn ≡ Some op) closed.none is)).2 closed.free
+closed_wants_none closes lines done left names txn op closed is = grind (arith, nat_tests)
 
 put_at : {A : Type 0} (l : List (List A)) (k : ℕ) (v : List A) → (k < length l) ⊎ (v ≡ slice_index_or l k []) → slice_index_or (set l k v) k [] ≡ v
 put_at [] k v (inl below) = absurd (omega (arith, below))
@@ -188,10 +179,7 @@ same_goes : (p : Progress) (k j : ℕ) (answer : Answer) (state : State) (seat :
 same_goes p k j answer state seat moves seats = record { moves = moves; seats = seats; done = λ i. sym (same_both (eqb k i) (finished_of p.machine.trace i)) }
 
 stays_moved : (p : Progress) (k : ℕ) (state : State) → state ≡ p.machine.state → Moved (seat_at p.machine.state.seats) (seat_at state.seats) k (seat_at p.machine.state.seats k)
-stays_moved p k state same = record {
-  here = ap (λ (s : State). seat_at s.seats k) same;
-  other = λ j differs. ap (λ (s : State). seat_at s.seats j) same;
-}
+stays_moved p k state same = grind (arith, nat_tests)
 
 -- the session's turn for what it wants
 session_good : (closes : Bool) (scripts : List (List Line)) (p : Progress) (k : ℕ) (op : Op) (move : Move) (state : State) → Good closes scripts p → wanted closes p k ≡ Some op
@@ -235,11 +223,7 @@ session_good closes scripts p k op other state good wants is moves stop going = 
 -- the flush
 flush_good : (closes : Bool) (scripts : List (List Line)) (p : Progress) (durable : ℕ) (state : State) → Good closes scripts p
     → Moves p.machine.opening.setting p.machine.state (rests Flush (sees.Force durable)) state → Good closes scripts (kept_up p (rests Flush (sees.Force durable)) state)
-flush_good closes scripts p durable state good moves = record {
-  run = moves_run p.machine (rests Flush (sees.Force durable)) state good.run moves;
-  sized = good.sized;
-  each = λ k. subst (λ (s : State). Stands closes (slice_index_or scripts k []) (finished_of p.machine.trace k) (lines_at p k) (names_at p k) (seat_at s.seats k)) (sym moves.1) (good.each k);
-}
+flush_good closes scripts p durable state good moves = grind (arith, nat_tests)
 
 -- an actor's turn, where a stop closes the session
 actor_good : (closes : Bool) (scripts : List (List Line)) (old new : Progress) (actor : Actor) (move : Option Move) → Good closes scripts old → ByActor closes old actor move new
@@ -283,17 +267,12 @@ begun_good closes o lines is = record {
 }
 
 good_is_run : (closes : Bool) (lines : List (List Line)) (p : Progress) → Good closes lines p → IsRunOf closes lines p
-good_is_run closes lines p good = record {
-  run = good.run;
-  follows = λ k. stands_follows closes (slice_index_or lines k []) (finished_of p.machine.trace k) (lines_at p k) (names_at p k) (seat_at p.machine.state.seats k) (good.each k);
-}
+good_is_run closes lines p good = grind (arith, nat_tests)
 
 -- a stop of a run by words leaves what was done
 stop_follows : (o : Opening) (lines : List (List Line)) (mid new : Progress) (actor : Actor) (move : Move) → Good false lines mid → ByActor false mid actor (Some move) new → IsStop move
     → IsRunOf false lines new
-stop_follows o lines mid new (Session (suc k)) (answered j answer) good by stops =
-    let before = good_is_run false lines mid good in
-    subst (IsRunOf false lines) (sym by.5) (record { run = moves_run mid.machine (answered j answer) by.1 good.run by.4; follows = before.follows })
+stop_follows o lines mid new (Session (suc k)) (answered j answer) good by stops = grind (arith, nat_tests)
 stop_follows o lines mid new (Session (suc k)) (turns j turn) good by stops = absurd stops
 stop_follows o lines mid new (Session (suc k)) other good by stops = absurd stops
 stop_follows o lines mid new Flush (rests Flush (sees.Force durable)) good by stops = absurd stops

@@ -8,7 +8,7 @@ use Rattle.rm_core.specs.Names.{seat_at, Turn, skip, unname, refuse, begin, scan
 use Rattle.rm_core.specs.Names.{miss, lack, alter, settled, settle, commit, force, finish, abort, prepared, prepare, compensate, end, save, no_target, target}
 use Rattle.rm_core.specs.Names.{back}
 use Rattle.rm_play.specs.{Takes, TakesAt, above, search_turns, left_at, turns_left, most_turns, TurnsComeNearer, Adds, Makes, OperationsEnd}
-use Rattle.rm_core.proofs.Names.{inl, inr, refl, sym, ap, subst, ◌∙◌, arith, ltb, cases_eq, cond_both, lt-ltb, last_is_of, pending_of-undo}
+use Rattle.rm_core.proofs.Names.{nat_tests, inl, inr, refl, sym, ap, subst, ◌∙◌, arith, ltb, cases_eq, cond_both, lt-ltb, last_is_of, pending_of-undo}
 use Rattle.rm_core.proofs.Names.{pending-change_other, pending-undo_other, pending-commit_other, pending-end_other}
 use Rattle.rm_core.proofs.Moves.{moved-set}
 use Rattle.rm_core.proofs.Runs.{moves_run, run_kept}
@@ -58,8 +58,7 @@ module _ (format : Format) (pages : ℕ) (s : State) (k : ℕ) (op : Op) (kept :
 
   near_scan : (stage : Stage) (row : List ℕ) (from to : ℕ) (found : Bool) → seat.stage ≡ stage → Scans stage row from → May format pages s k seat (scan row from to found) → Nears (scan row from to found)
   near_scan idle row from to true at scans may = first (scan row from to true) at (λ takes. subst (λ (o : Op). search_turns pages to + 1 ≤ most_turns pages pending o) (sym takes) (omega arith))
-  near_scan idle row from to false at scans may = first (scan row from to false) at (λ takes. subst (λ (o : Op). search_turns pages to + 1 + 1 ≤ most_turns pages pending o) (sym takes)
-      (let stop = may.stops.0 in let more = may.stops.1 in omega arith))
+  near_scan idle row from to false at scans may = grind (arith, nat_tests)
   near_scan (seeks sought on) row from to true at scans may = next (seeks sought on) (scan row from to true) at (λ no. cc) (omega arith)
   near_scan (seeks sought on) row from to false at scans may = next (seeks sought on) (scan row from to false) at (λ no. cc) (omega arith)
   near_scan other row from to found at scans may = absurd scans
@@ -70,12 +69,10 @@ module _ (format : Format) (pages : ℕ) (s : State) (k : ℕ) (op : Op) (kept :
   near_scan_last other row from at scans = absurd scans
 
   near_latch : (stage : Stage) (page : ℕ) → seat.stage ≡ stage → Wants s seat stage page → Nears (latch page)
-  near_latch (wants row on) page at is = next (wants row on) (latch page) at (λ no. cc)
-      (subst (λ (st : Stage). left_at pages pending (latched st page) < search_turns pages on) (sym at) (let within_it : on < pages = inside (wants row on) at in let same : on ≡ page = is in omega arith))
+  near_latch (wants row on) page at is = grind (arith, nat_tests)
   near_latch (reads rid) page at is = next (reads rid) (latch page) at (λ no. cc) (subst (λ (st : Stage). left_at pages pending (latched st page) < 2) (sym at) (omega arith))
   near_latch (alters rid slot) page at is = next (alters rid slot) (latch page) at (λ no. cc) (subst (λ (st : Stage). left_at pages pending (latched st page) < 3) (sym at) (omega arith))
-  near_latch (rolls aim) page at is = next (rolls aim) (latch page) at (λ no. cc)
-      (subst (λ (st : Stage). left_at pages pending (latched st page) < 3 * above (target_of aim) pending + 1) (sym at) (omega arith))
+  near_latch (rolls aim) page at is = grind (arith, nat_tests)
   near_latch other page at is = absurd is
 
   -- a lock that is refused may end the transaction

@@ -9,7 +9,7 @@ use Rattle.rm_core.specs.Names.{scan_last, latch, try, try_last, insert, lock, l
 use Rattle.rm_core.specs.Names.{finish, abort, prepared, prepare, compensate, end, save, no_target, target, back}
 use Rattle.rm_play.specs.{Takes, TakesAt, MayTake, IsMoveFor, erased, AsksRoom, IsAlike, MovesAreOne, slot_for, found_at, scanning, latching, latching_at}
 use Rattle.rm_play.specs.{locking_against, locking, altering_to, rolling, preparing, compensating, outside, asking, chosen_at}
-use Rattle.rm_core.proofs.Names.{inl, inr, cond, refl, sym, ap, subst, ◌∙◌, arith, cases_eq, cases_order, Decides-and, Decides-eqb, Decides-ltb}
+use Rattle.rm_core.proofs.Names.{nat_tests, inl, inr, cond, refl, sym, ap, subst, ◌∙◌, arith, cases_eq, cases_order, Decides-and, Decides-eqb, Decides-ltb}
 use Rattle.rm_core.proofs.Runs.{run_kept}
 use Rattle.rm_play.proofs.Finding.{if_else, decides_le, decides_number, IsLeast, In, first_is_least, barring_is_least, Keeps, blocker_is_least, slot_is_for_row}
 use Rattle.rm_events.specs.declared.operations.Op.TheVariants as ops
@@ -26,10 +26,7 @@ found_one : (P : ℕ → Type 0) (one other : Option ℕ) → IsLeast P one → 
 found_one P None None is has = refl
 found_one P None (Some j) is has = absurd (is j has.0)
 found_one P (Some i) None is has = absurd (has i is.0)
-found_one P (Some i) (Some j) is has = elim (cases_order i j) [
-  | inl same ↦ ap Some same
-  | inr differs ↦ elim differs [ inl less ↦ absurd (has.1 i less is.0) | inr more ↦ absurd (is.1 j more has.0) ]
-]
+found_one P (Some i) (Some j) is has = grind (arith, nat_tests)
 
 -- the chosen move at an offset of 0, by the stage first
 abbrev pivot_at : Setting → State → ℕ → Op → Stage → Move
@@ -77,8 +74,7 @@ module _ (m : Setting) (s : State) (k : ℕ) (op : Op) (bare : (seat_at s.seats 
   scan_is : (stage : Stage) (row : List ℕ) (from : ℕ) {turn : Turn} → seat.stage ≡ stage → (seat.txn ≡ 0 → ⊥) → Scans stage row from
       → (seat.stage ≡ idle → op ≡ ops.Insert row) → turn ≡ scanning m s row from → Is (turns k turn)
   scan_is idle row from at some begins inserts is = asked_is some at inserts (is ∙ ap (scanning m s row) begins)
-  scan_is (seeks sought on) row from at some goes inserts is =
-      at_stage at (ap (turns k) (is ∙ ap (scanning m s row) (sym goes.1) ∙ ap (λ (r : List ℕ). scanning m s r on) (sym goes.0)))
+  scan_is (seeks sought on) row from at some goes inserts is = grind (arith, nat_tests)
   scan_is other row from at some never inserts is = absurd never
 
   asks_it : (o : Op) (rid : Rid) (alone : Bool) → Asks o rid alone → locking m s seat o rid alone ≡ asking m s k 0 o
@@ -102,8 +98,7 @@ module _ (m : Setting) (s : State) (k : ℕ) (op : Op) (bare : (seat_at s.seats 
   wanting (wants row on) page at is = at_stage at (ap (latching_at s k) (sym is))
   wanting (reads rid) page at is = at_stage at (ap (latching_at s k) (sym is))
   wanting (alters rid new) page at is = at_stage at (ap (latching_at s k) (sym is))
-  wanting (rolls aim) page at is = at_stage at (subst (λ (pending : List Change). latching_at s k page ≡ rolling s k 0 aim pending) (sym is.2)
-      (ap (latching_at s k) (sym is.3) ∙ yes_it _ (Decides-ltb (target_of aim) is.0.lsn) is.4))
+  wanting (rolls aim) page at is = grind (arith, nat_tests)
   wanting other page at is = absurd is
 
   latching_is : (page : ℕ) (found : Option ℕ) → Wants s seat seat.stage page → IsLeast (Bars s k page) found → Is (latching s k page found)
@@ -202,8 +197,7 @@ module _ (m : Setting) (s : State) (k : ℕ) (op : Op) (bare : (seat_at s.seats 
   only (back number lsn) takes some may room = at_stage may.0 (back_is number lsn (pending_of s.history seat.txn) may.1)
 
   spent_is : (last : ℕ) → seat.stage ≡ idle → op ≡ ops.Begin → IsSpent s k → last + 1 ≡ s.next → Is (answered k (spent last))
-  spent_is last at same is before = let most : last ≡ 2 ^ 32 - 1 = omega (arith, is.1, before) in
-      outside_is at same is.0 (ap (λ (n : ℕ). answered k (spent n)) most ∙ yes_it _ (Decides-eqb s.next (2 ^ 32)) is.1)
+  spent_is last at same is before = grind (arith, nat_tests)
 
 -- the move that is chosen where the log has room: for a move that is refused room, its turn
 abbrev Chooses : Move → Move → Type 0
