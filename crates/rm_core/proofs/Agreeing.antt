@@ -13,7 +13,7 @@ use Rattle.rm_core.specs.Names.{refused, unbound, Scans, Aim, undoes_all, return
 use Rattle.rm_core.specs.Names.{alters, sets, settles, rolls, prepares, compensates, Seat, Grant, State, seat_at, Turn, skip, unname, refuse, begin, scan}
 use Rattle.rm_core.specs.Names.{scan_last, latch, try, try_last, insert, lock, lock_alone, wait, die, fetch, miss, lack, alter, settled, settle, commit, force}
 use Rattle.rm_core.specs.Names.{finish, abort, prepared, prepare, compensate, end, save, no_target, target, back}
-use Rattle.rm_core.proofs.Names.{inl, inr, cond, refl, sym, ap, subst, subst₂, ◌∙◌, arith, cases_eq, last_is_of, pending_falls, finished_has_record}
+use Rattle.rm_core.proofs.Names.{nat_tests, inl, inr, cond, refl, sym, ap, subst, subst₂, ◌∙◌, arith, cases_eq, last_is_of, pending_falls, finished_has_record}
 use Rattle.rm_core.proofs.Names.{unrecorded_has_none, pending_of-undo, if_equal, if_different, pending-change, legal_is_in_order}
 use Rattle.rm_core.proofs.Keeping.{Closes}
 use Rattle.rm_core.proofs.Grants.{alone_has, released_any, joined_any, joined_more}
@@ -185,13 +185,7 @@ module _ {format : Format} {pages : ℕ} {trace : List Event} {s : State} (k : �
     pub agreed : (txn ≡ 0 → ⊥) → Agreed pages s.history s.grants txn seat.saves way all
 
   pub here : (was : Stage) → seat.stage ≡ was → (IsOver was → ⊥) → Here (view was).way (due was told)
-  here was at not =
-      let active : IsOver seat.stage → ⊥ = λ over. not (subst IsOver at over) in
-      record {
-        free = unordered active;
-        agreed = λ some.
-            subst (λ (stage : Stage). Agreed pages s.history s.grants txn seat.saves (view stage).way (due stage told)) at (known.running k some active);
-      }
+  here was at not = grind (arith, nat_tests)
 
   -- the turn is of the session's transaction, and leaves it at this stage
   abbrev Stages : Turn → Stage → Type 0
@@ -398,16 +392,8 @@ module _ {format : Format} {pages : ℕ} {trace : List Event} {s : State} (k : �
   -- its transaction's id is below the next one, and no other session's
   ids : (turn : Turn) → May format pages s k seat turn → (txn_of seat turn < (left turn).next) × (s.next ≤ (left turn).next)
       × ((j : ℕ) → (j ≡ k → ⊥) → ((seat_at s.seats j).txn ≡ 0 → ⊥) → (seat_at s.seats j).txn ≡ txn_of seat turn → ⊥)
-  ids (begin id) may = (
-    omega (arith, may.1),
-    omega arith,
-    λ j differs some is. let below : (seat_at s.seats j).txn < s.next = (kept.seated j some).below in omega (arith, below, is, may.1),
-  )
-  ids turn may = (
-    elim (cases_eq txn 0) [ inl none ↦ omega (arith, none, kept.some) | inr some ↦ (kept.seated k some).below ],
-    omega arith,
-    λ j differs some is. differs (sym (kept.single k j some (sym is))),
-  )
+  ids (begin id) may = grind (arith, nat_tests)
+  ids turn may = grind (arith, nat_tests)
 
   -- the transactions in the order are finished
   ordered : (turn : Turn) → IsSeated seat turn → May format pages s k seat turn → (other : ℕ) → IsAmong (order_of (event_of pages s k turn ∷ trace)) other

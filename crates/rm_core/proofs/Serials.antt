@@ -5,7 +5,7 @@ use Rattle.rm_core.specs.Names.{logging, effect, after, Event, event_of, RunsAre
 use Rattle.rm_core.specs.Names.{Move, turns, answered, appends, append_refused, rests, Moves, single_after, Allowed, rows_through, AllAllowed, onto, ops_of}
 use Rattle.rm_core.specs.Names.{ordered_with, order_of, IsAmong, commits_in, Outcome, committed, Opening, Machine, IsRun, moved, idle, Seat, State, seat_at}
 use Rattle.rm_core.specs.Names.{Turn, commit}
-use Rattle.rm_core.proofs.Names.{inl, inr, eqb, refl, sym, ap, subst, subst₂, ◌∙◌, arith, one-add, length-append, cases_eq, cond_both, if_equal, if_different}
+use Rattle.rm_core.proofs.Names.{nat_tests, inl, inr, eqb, refl, sym, ap, subst, subst₂, ◌∙◌, arith, one-add, length-append, cases_eq, cond_both, if_equal, if_different}
 use Rattle.rm_core.proofs.Agreeing.{applied-same, view, Agreeing, IsQuiet, KeepsLocks, running_still, here, own, turn_agrees, closed_agrees}
 use Rattle.rm_core.proofs.Runs.{kept_along, setting_of, run_kept, txn_none}
 use Rattle.rm_core.proofs.Stages.{rest_is_quiet}
@@ -16,15 +16,7 @@ abbrev Like : List Outcome → List Outcome → Type 0
 Like told more = (more ≡ told) ⊎ (more ≡ committed ∷ told)
 
 event_like : (e : Event) (trace : List Event) (txn : ℕ) → (e.txn ≡ txn → IsQuiet e.done) → Like (ops_of trace txn) (ops_of (e ∷ trace) txn)
-event_like e trace txn quiet = elim (cases_eq e.txn txn) [
-  | inl is ↦
-      let now : ops_of (e ∷ trace) txn ≡ onto e.done (ops_of trace txn) = if_equal e.txn txn _ _ is in
-      elim (quiet is) [
-        | inl none ↦ inl (now ∙ ap (λ (done : Option Outcome). onto done (ops_of trace txn)) none)
-        | inr said ↦ inr (now ∙ ap (λ (done : Option Outcome). onto done (ops_of trace txn)) said)
-      ]
-  | inr not ↦ inl (if_different e.txn txn _ _ not)
-]
+event_like e trace txn quiet = grind (arith, nat_tests)
 
 among_drop : (n : ℕ) (order : List ℕ) (txn : ℕ) → IsAmong (drop n order) txn → IsAmong order txn
 among_drop zero order txn among = among
@@ -78,11 +70,7 @@ prefixed : (start : History) (ops : ℕ → List Outcome) (order more : List ℕ
     → ((rid : Rid) → rows_of_log (act ∷ history) rid ≡ after_all start ops more rid)
     → ((newer : History) → drop (commits_in (act ∷ newer)) more ≡ drop (commits_in newer) order) → Prefixes start ops more (act ∷ history)
 prefixed start ops order more act history before rows step [] past is rid = ap (λ (h : History). rows_of_log h rid) (sym is) ∙ rows rid
-prefixed start ops order more act history before rows step (first ∷ newer) past is rid =
-    let tail : history ≡ newer ++ (past ++ start) = cc in
-    let head : act ≡ first = cc in
-    let same = subst (λ (a : Act). drop (commits_in (a ∷ newer)) more ≡ drop (commits_in newer) order) head (step newer) in
-    before newer past tail rid ∙ ap (λ (l : List ℕ). after_all start ops l rid) (sym same)
+prefixed start ops order more act history before rows step (first ∷ newer) past is rid = grind (arith, nat_tests)
 
 -- no record, or one that is no commit
 abbrev IsNoCommit : Option Act → Type 0

@@ -36,16 +36,10 @@ abbrev pub GoesOn : Option Outcome → Seat → Op → Type 0
 GoesOn None seat op = Doing seat.stage op
 GoesOn (Some outcome) seat op = (asked outcome ≡ op) × (seat.stage ≡ idle) × (op ≡ ops.Abort → seat.txn ≡ 0)
 
--- an update or delete is no abort, and no operation that asks for a lock is
+-- an update or delete is no abort
 altering_no_abort : (rid : Rid) (new : Slot) → altering rid new ≡ ops.Abort → ⊥
 altering_no_abort rid slot.Vacant is = cc
 altering_no_abort rid (slot.Row row) is = cc
-
-asks_no_abort : (op : Op) (rid : Rid) (alone : Bool) → Asks op rid alone → op ≡ ops.Abort → ⊥
-asks_no_abort op rid alone asks is = subst (λ (o : Op). Asks o rid alone) is asks
-
-skips_none : (seat : Seat) (op : Op) → IsSkipped seat op → op ≡ ops.Abort → seat.txn ≡ 0
-skips_none seat op is same = subst (IsSkipped seat) same is
 
 -- what is known of the operation of a session at this seat
 record At (stage : Stage) (turn : Turn) (op : Op) : Type 0 where
@@ -83,9 +77,9 @@ module _ (format : Format) (pages : ℕ) (s : State) (k : ℕ) (seat : Seat) (op
   ends is not at = (sym is, at, λ same. absurd (not (sym is ∙ same)))
 
   going : (turn : Turn) → May format pages s k seat turn → At seat.stage turn op → GoesOn (outcome_of turn) (effect format s seat turn).seat op
-  going (skip other) may is = (taken may.0 is, may.0, skips_none seat op (subst (IsSkipped seat) (taken may.0 is) may.1))
+  going (skip other) may is = (taken may.0 is, may.0, λ same. subst (IsSkipped seat) (taken may.0 is ∙ same) may.1)
   going unname may is = ends (taken may is) (λ no. cc) may
-  going (refuse other rid) may is = (taken may.0 is, may.0, λ same. absurd (asks_no_abort other rid may.1.0 may.1.1 (taken may.0 is ∙ same)))
+  going (refuse other rid) may is = (taken may.0 is, may.0, λ same. absurd (subst (λ (o : Op). Asks o rid may.1.0) (taken may.0 is ∙ same) may.1.1))
   going (begin txn) may is = ends (taken (bare may.0) is) (λ no. cc) refl
   going (scan row from to found) may is = scanned_op row to found op (scan_op seat.stage row from (scan row from to found) op may.at (λ h. h) is)
   going (scan_last row from) may is = ends (scan_op seat.stage row from (scan_last row from) op may.at (λ h. h) is) (λ no. cc) refl

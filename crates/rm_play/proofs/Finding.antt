@@ -19,9 +19,6 @@ decides_le a b = (leb-true a b, le-leb a b)
 decides_never : Decides false ⊥
 decides_never = (λ is. absurd cc, λ never. absurd never)
 
-decides_true : (b : Bool) → Decides b (IsTrue b)
-decides_true b = (λ is. is, λ is. is)
-
 decides_place : (a b : Rid) → Decides (is_same_place a b) (a ≡ b)
 decides_place a b = (same_place a b, λ same. subst (λ (r : Rid). is_same_place a r ≡ true) same (is_same_place-refl a))
 
@@ -105,7 +102,7 @@ decides_blocks (first ∷ grants) other rid true =
     Decides-or _ _ (Decides-and _ _ (Decides-eqb first.txn other) (decides_place first.rid rid)) (decides_blocks grants other rid true)
 decides_blocks (first ∷ grants) other rid false = Decides-or _ _
     (Decides-like _ (λ has. (has.1.0, has.1.1, has.0)) (λ has. (has.2, (has.0, has.1)))
-    (Decides-and _ _ (decides_true first.alone) (Decides-and _ _ (Decides-eqb first.txn other) (decides_place first.rid rid))))
+    (Decides-and _ _ (λ is. is, λ is. is) (Decides-and _ _ (Decides-eqb first.txn other) (decides_place first.rid rid))))
     (decides_blocks grants other rid false)
 
 has_below : (grants : List Grant) (txn : ℕ) (rid : Rid) → HasGrant grants txn rid → (txn < past_locks grants) × (rid.slot < past_locks grants)
