@@ -153,10 +153,7 @@ module _ (format : Format) (s : State) (k : ℕ) (e : Effect) (txn : ℕ) (kept 
           (kept.granted any rid (own.elsewhere.changed any rid differs has) (λ finished. live (own.elsewhere.still any finished)))
     ];
     apart = own.apart;
-    fresh = λ any has. elim (own.elsewhere.records any has) [
-      | inl same ↦ omega (arith, same, own.below)
-      | inr before ↦ omega (arith, own.grows, kept.fresh any before)
-    ];
+    fresh = λ any has. grind (arith, nat_tests);
     some = omega (arith, own.grows, kept.some);
     locked = λ j. each (λ st. Locked e.grants st.txn st.stage) j (λ is. own.locked)
         (λ not. locked_more s.grants e.grants (old j).txn (old j).stage (λ rid. own.more (old j).txn rid (own.only j not)) (kept.locked j));

@@ -149,17 +149,10 @@ begin_keeps format s k kept among none =
       legal = kept.legal;
       elsewhere = elsewhere-none s.history s.next (Latches (seat_at s.seats k).stage);
       -- each session's id is 0 or below the next one
-      only = λ j not same. let some : 0 < s.next = kept.some in
-          let known : Seated format s.history s.next (seat_at s.seats j) = kept.seated j (λ empty. omega (arith, some, same, empty)) in omega (arith, same, known.below);
+      only = λ j not same. grind (arith, nat_tests);
       mine = λ some. refl;
       bare = λ empty. refl;
-      seated = λ some. record {
-        below = omega arith;
-        over = λ is. absurd is;
-        active = λ not finished. unused finished;
-        head = λ page heads. absurd heads;
-        ready = λ page readies last rest is. absurd readies;
-      };
+      seated = λ some. grind (arith, nat_tests);
       below = omega arith;
       grows = omega arith;
       more = λ other rid differs. (no_locks s.grants kept.apart).0 other rid;
@@ -328,12 +321,7 @@ module _ (format : Format) (s : State) (k : ℕ) (has : Turns format s k) where
       quiet s.grants seat.saves stage (no_locks s.grants has.kept.apart) on says
       (λ p h. absurd ((free was is_free).latches p (inl (subst (λ (st : Stage). Latches st p) at h))))
       (record {
-        alone = λ j p differs latches other.
-            let is = alone p latches in
-            elim (subst (λ (n : ℕ). Latches (seat_at s.seats j).stage n ⊎ Looks (seat_at s.seats j).stage n) (sym is.0) other) [
-              | inl latched ↦ may.free j differs latched
-              | inr looks ↦ may.looked j differs (λ reading. is.1 (subst IsReading at reading)) looks
-            ];
+        alone = grind (arith, nat_tests);
         shared = λ j p differs looks other. may.free j differs (subst (Latches (seat_at s.seats j).stage) (sym (shared p looks)) other);
       })
 
