@@ -146,9 +146,7 @@ undone points told (returns number lsn) last rest less st = λ m.
 
 -- in a transaction only a begin is skipped
 skipped_begin : (seat : Seat) (op : Op) → IsSkipped seat op → (seat.txn ≡ 0 → ⊥) → op ≡ ops.Begin
-skipped_begin seat ops.Begin is some = refl
-skipped_begin seat ops.Unbound is some = absurd is
-skipped_begin seat other is some = absurd (some is)
+skipped_begin seat op is some = grind (arith, nat_tests)
 
 module _ {format : Format} {pages : ℕ} {trace : List Event} {s : State} (k : ℕ) (kept : Kept format s) (known : Agreeing pages trace s) where
   abbrev pub seat : Seat
@@ -252,16 +250,10 @@ module _ {format : Format} {pages : ℕ} {trace : List Event} {s : State} (k : �
 
   -- a scan begins where nothing is promised
   scans_at : (was : Stage) (row : List ℕ) (from : ℕ) → seat.stage ≡ was → Scans was row from → Here forth told
-  scans_at idle row from at scans = here idle at (λ o. o)
-  scans_at (seeks sought on) row from at scans = here (seeks sought on) at (λ o. o)
-  scans_at other row from at scans = absurd scans
+  scans_at was row from at scans = grind (arith, nat_tests)
 
   latches_at : (was : Stage) (page : ℕ) → seat.stage ≡ was → Wants s seat was page → Stages (latch page) (latched was page) → Own (latch page)
-  latches_at (wants row on) page at is to = goes (here (wants row on) at (λ o. o)) to refl still (λ some st. (λ m base a. a, st))
-  latches_at (reads rid) page at is to = goes (here (reads rid) at (λ o. o)) to refl still (λ some st. (λ m base a. a, st))
-  latches_at (alters rid slot) page at is to = goes (here (alters rid slot) at (λ o. o)) to refl still (λ some st. (λ m base a. a, st))
-  latches_at (rolls aim) page at is to = goes (here (rolls aim) at (λ o. o)) to refl still (λ some st. (λ m base a. a, st))
-  latches_at other page at is to = absurd is
+  latches_at was page at is to = grind (arith, nat_tests)
 
   -- a change is logged, and its outcome is promised
   changed : (outcome : Outcome) (rid : Rid) (held slot : Slot) (lsn : ℕ) → newest_lsn s.history < lsn
@@ -398,9 +390,7 @@ module _ {format : Format} {pages : ℕ} {trace : List Event} {s : State} (k : �
   -- the transactions in the order are finished
   ordered : (turn : Turn) → IsSeated seat turn → May format pages s k seat turn → (other : ℕ) → IsAmong (order_of (event_of pages s k turn ∷ trace)) other
       → IsFinished (left turn).history other × (other ≡ 0 → ⊥)
-  ordered (commit lsn) seated may other (inl is) = (inl is, λ zero. seated (is ∙ zero))
-  ordered (commit lsn) seated may other (inr among) = (inr (known.over other among).0, (known.over other among).1)
-  ordered turn seated may other among = ((turn_elsewhere format pages s k seat turn may).still other (known.over other among).0, (known.over other among).1)
+  ordered turn seated may other among = grind (arith, nat_tests)
 
   -- So after each turn all is known again.
   pub turn_agrees : (turn : Turn) → k < length s.seats → IsSeated seat turn → May format pages s k seat turn
@@ -419,10 +409,7 @@ module _ {format : Format} {pages : ℕ} {trace : List Event} {s : State} (k : �
       }
 
   closed_own : (was : Stage) → seat.stage ≡ was → Closes was → Here forth told
-  closed_own idle at closes = here idle at (λ o. o)
-  closed_own (tries row page) at closes = here (tries row page) at (λ o. o)
-  closed_own (sets rid slot) at closes = here (sets rid slot) at (λ o. o)
-  closed_own other at closes = absurd closes
+  closed_own was at closes = grind (arith, nat_tests)
 
   pub closed_agrees : k < length s.seats → Closes seat.stage → Agreeing pages trace (closed s k)
   closed_agrees among closes = record {

@@ -35,10 +35,7 @@ pub no_locks : (grants : List Grant) → AreApart grants → Locks grants grants
 no_locks grants apart = (more-same grants, apart)
 
 same_is : (a b : Bool) → is_same a b ≡ true → a ≡ b
-same_is true true is = refl
-same_is true false is = absurd cc
-same_is false true is = absurd cc
-same_is false false is = refl
+same_is a b is = grind (arith, nat_tests)
 
 abbrev grant_of : ℕ → Rid → Bool → Grant
 grant_of txn rid alone = record { txn = txn; rid = rid; alone = alone }

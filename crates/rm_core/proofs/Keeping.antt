@@ -16,11 +16,7 @@ use Rattle.rm_core.proofs.Moves.{Moved, moved-set, same_state}
 use Rattle.rm_core.proofs.Sizes.{entry_size, commit_size, end_size, undo_size, next_within, next_after}
 
 claims_owed : (stage : Stage) (bytes : ℕ) → claims_at stage bytes ≤ owes_at stage bytes
-claims_owed (settles outcome page) bytes = omega arith
-claims_owed (compensates aim page) bytes = omega arith
-claims_owed forces bytes = omega arith
-claims_owed finishes bytes = omega arith
-claims_owed other bytes = omega arith
+claims_owed stage bytes = grind (arith, nat_tests)
 
 claim_owed : (history : History) (seat : Seat) → claim_of history seat ≤ owed_by history seat
 claim_owed history seat = let less = claims_owed seat.stage (bytes_for (pending_of history seat.txn)) in grind (arith, nat_tests)
@@ -83,11 +79,7 @@ module _ (format : Format) (limit : ℕ) (s : State) (k : ℕ) (known : Known fo
 
   -- a latch leaves the claim
   latch_claims : (stage : Stage) (page : ℕ) → Wants s seat stage page → claims_at (latched stage page) bytes ≡ claims_at stage bytes
-  latch_claims (wants row on) page is = refl
-  latch_claims (reads rid) page is = refl
-  latch_claims (alters rid slot) page is = refl
-  latch_claims (rolls aim) page is = refl
-  latch_claims other page is = absurd is
+  latch_claims stage page is = grind (arith, nat_tests)
 
   -- where the turn was asked for it
   room_asked : (new : State) → end_of new.history + 32 + owed new ≤ limit → HasRoom limit new
@@ -208,10 +200,7 @@ Closes other = ⊥
 
 closes_at : (format : Format) (pages limit offset : ℕ) (s : State) (k : ℕ) (turn : Turn) → Kept format s → May format pages s k (seat_at s.seats k) turn
     → Lacks limit offset turn (after format s k (seat_at s.seats k) turn) → Closes (seat_at s.seats k).stage
-closes_at format pages limit offset s k (begin txn) kept may lacks = subst Closes (sym (kept.bare k may.0)) tt
-closes_at format pages limit offset s k (insert row rid lsn) kept may lacks = subst Closes (sym may.at) tt
-closes_at format pages limit offset s k (alter rid slot lsn) kept may lacks = subst Closes (sym may.at) tt
-closes_at format pages limit offset s k other kept may lacks = absurd lacks
+closes_at format pages limit offset s k turn kept may lacks = grind (arith, nat_tests)
 
 pub refused_closes : (m : Setting) (s : State) (k offset : ℕ) → Kept m.format s → IsRefused m s k offset → Closes (seat_at s.seats k).stage
 refused_closes m s k offset kept is = closes_at m.format m.pages m.limit offset s k is.turn kept is.may is.lacks

@@ -17,9 +17,7 @@ latches_or_not (compensates target on) page = cases_eq on page
 latches_or_not other page = inr (λ m. m)
 
 pub owes_latches : (stage : Stage) (page : ℕ) → Owes stage page → Latches stage page
-owes_latches (settles outcome on) page owes = owes
-owes_latches (compensates target on) page owes = owes
-owes_latches other page owes = absurd owes
+owes_latches stage page owes = grind (arith, nat_tests)
 
 readies_latches : (stage : Stage) (page : ℕ) → Readies stage page → Latches stage page
 readies_latches (compensates target on) page readies = readies

@@ -152,19 +152,13 @@ AllSeated s = (txn : ℕ) → HasRecord s.history txn → (IsFinished s.history 
 -- a session without a transaction logs nothing
 seated_or_quiet : (format : Format) (s : State) (k : ℕ) (seat : Seat) (turn : Turn) → IsSeated seat turn
     → (seat.txn ≡ 0 → ⊥) ⊎ ((after format s k seat turn).history ≡ s.history)
-seated_or_quiet format s k seat (skip op) seated = inr refl
-seated_or_quiet format s k seat unname seated = inr refl
-seated_or_quiet format s k seat (begin txn) seated = inr refl
-seated_or_quiet format s k seat other seated = inl seated
+seated_or_quiet format s k seat turn seated = grind (arith, nat_tests)
 
 -- a session lets its transaction go only where that is finished
 still_seated : (format : Format) (pages : ℕ) (s : State) (k : ℕ) (seat : Seat) (turn : Turn) → May format pages s k seat turn → (seat.txn ≡ 0 → ⊥)
     → (IsOver seat.stage → IsFinished s.history seat.txn) → (IsFinished (after format s k seat turn).history seat.txn → ⊥)
     → (effect format s seat turn).seat.txn ≡ seat.txn
-still_seated format pages s k seat (begin txn) may some over unfinished = absurd (some may.0)
-still_seated format pages s k seat finish may some over unfinished = absurd (unfinished (over (rw may tt)))
-still_seated format pages s k seat (end outcome lsn) may some over unfinished = absurd (unfinished (inl refl))
-still_seated format pages s k seat other may some over unfinished = refl
+still_seated format pages s k seat turn may some over unfinished = grind (arith, nat_tests)
 
 -- it stands in another seat, or in one that keeps it
 seat_stays : (seats : List Seat) (k : ℕ) (seat : Seat) (txn : ℕ) → k < length seats → ((seat_at seats k).txn ≡ txn → seat.txn ≡ txn)
@@ -203,11 +197,7 @@ all_seated = kept_along (λ o trace s. AllSeated s) (record {
 -- ---- the sessions' claims cover the cost
 
 claims_active : (stage : Stage) (bytes : ℕ) → (IsOver stage → ⊥) → 34 + bytes ≤ claims_at stage bytes
-claims_active (settles outcome page) bytes not = omega arith
-claims_active (compensates aim page) bytes not = omega arith
-claims_active forces bytes not = absurd (not tt)
-claims_active finishes bytes not = absurd (not tt)
-claims_active other bytes not = omega arith
+claims_active stage bytes not = grind (arith, nat_tests)
 
 claim_active : (history : History) (seat : Seat) → (seat.txn ≡ 0 → ⊥) → (IsOver seat.stage → ⊥)
     → 34 + bytes_for (pending_of history seat.txn) ≤ claim_of history seat

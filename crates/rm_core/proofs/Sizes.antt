@@ -3,7 +3,7 @@ use Rattle.rm_core.specs.Below.{◌≡◌, ℕ, ◌+◌, ◌<◌, ◌≤◌, [],
 use Rattle.rm_core.specs.Below.{History, changes, undoes, enters, commits, ends, lists, newest_lsn, marks}
 use Rattle.rm_record.proofs.SizeLaws.{length-checkpoint}
 use Rattle.rm_core.specs.Names.{change_record, size_of, end_of, IsNext}
-use Rattle.rm_core.proofs.Names.{inl, inr, refl, arith, length-append}
+use Rattle.rm_core.proofs.Names.{nat_tests, inl, inr, refl, arith, length-append}
 
 pub entry_size : (e : Entry) → size_of (enters e) ≡ 10
 unfolding size_of
@@ -22,10 +22,7 @@ unfolding size_of
 undo_size u = elim u.back as (λ back. size_of (undoes (record u { back = back })) ≤ 30 + row_length back) [ Vacant ↦ omega arith | Row row ↦ omega arith ]
 
 change_size : (txn under : ℕ) (rid : Rid) (need : ℕ) (before after : Slot) → 0 < length (spelling (change_record txn under rid need before after))
-change_size txn under rid need Vacant Vacant = omega arith
-change_size txn under rid need Vacant (Row new) = omega arith
-change_size txn under rid need (Row old) Vacant = omega arith
-change_size txn under rid need (Row old) (Row new) = omega (arith, length-append (row_bytes old) (row_bytes new))
+change_size txn under rid need before after = grind (arith, nat_tests)
 
 -- each record has bytes
 pub size_some : (act : Act) → 0 < size_of act
@@ -44,11 +41,7 @@ next_above (newest ∷ before) lsn (inl is) = omega (arith, is, size_some newest
 next_above (newest ∷ before) lsn (inr is) = omega (arith, is, size_some newest)
 
 pub next_within : (history : History) (lsn : ℕ) → IsNext history lsn → lsn ≤ end_of history + 5
-next_within [] lsn is = omega (arith, is)
-next_within (newest ∷ before) lsn (inl is) = omega (arith, is)
-next_within (newest ∷ before) lsn (inr is) = omega (arith, is)
+next_within history lsn is = grind (arith, nat_tests)
 
 pub next_after : (history : History) (lsn : ℕ) → IsNext history lsn → end_of history ≤ lsn
-next_after [] lsn is = omega (arith, is)
-next_after (newest ∷ before) lsn (inl is) = omega (arith, is)
-next_after (newest ∷ before) lsn (inr is) = omega (arith, is)
+next_after history lsn is = grind (arith, nat_tests)

@@ -38,23 +38,13 @@ module _ (format : Format) (history : History) (txn : ℕ) where
   Says other = IsFinished history txn → ⊥
 
   said_over : (stage : Stage) → Says stage → IsOver stage → IsFinished history txn
-  said_over forces says is = says
-  said_over finishes says is = says
-  said_over other says is = absurd is
+  said_over stage says is = grind (arith, nat_tests)
 
   said_active : (stage : Stage) → Says stage → (IsOver stage → ⊥) → IsFinished history txn → ⊥
-  said_active forces says live = absurd (live tt)
-  said_active finishes says live = absurd (live tt)
-  said_active (settles outcome on) says live = says.0
-  said_active (prepares aim on) says live = says.0
-  said_active (compensates aim on) says live = says.0
-  said_active other says live = says
+  said_active stage says live = grind (arith, nat_tests)
 
   said_head : (stage : Stage) → Says stage → (page : ℕ) → Heads stage page → HeadOn (pending_of history txn) page (target_at stage)
-  said_head (settles outcome on) says page here = let head = says.1 in (head.0, head.1, head.2, head.3 ∙ here, head.4)
-  said_head (prepares aim on) says page here = let head = says.1 in (head.0, head.1, head.2, head.3 ∙ here, head.4)
-  said_head (compensates aim on) says page here = let head = says.1 in (head.0, head.1, head.2, head.3 ∙ here, head.4)
-  said_head other says page here = absurd here
+  said_head stage says page here = grind (arith, nat_tests)
 
   said_ready : (stage : Stage) → Says stage → (page : ℕ) → Readies stage page → (last : Change) (rest : List Change)
       → pending_of history txn ≡ last ∷ rest → (last.rid.page ≡ page) × (entry_of history page ≡ category_after format history last)
@@ -74,11 +64,7 @@ IsPlain (compensates aim on) = ⊥
 IsPlain other = Unit {0}
 
 pub plain : (stage : Stage) → IsPlain stage → (IsOver stage → ⊥) × ((page : ℕ) → Owes stage page → ⊥) × ((bytes : ℕ) → claims_at stage bytes ≡ 49 + bytes)
-plain forces is = absurd is
-plain finishes is = absurd is
-plain (settles outcome on) is = absurd is
-plain (compensates aim on) is = absurd is
-plain other is = (λ over. over, λ page owes. owes, λ bytes. refl)
+plain stage is = grind (arith, nat_tests)
 
 -- a page is latched by none, and of none is more said than that its transaction is active
 abbrev pub IsFree : Stage → Type 0
@@ -101,13 +87,7 @@ pub record Free (stage : Stage) : Type 0 where
   pub plain : IsPlain stage
 
 pub free : (stage : Stage) → IsFree stage → Free stage
-free idle is = record { says = λ f h t live. live; latches = λ page. neither; plain = tt }
-free (seeks row from) is = record { says = λ f h t live. live; latches = λ page. neither; plain = tt }
-free (wants row on) is = record { says = λ f h t live. live; latches = λ page. neither; plain = tt }
-free (reads rid) is = record { says = λ f h t live. live; latches = λ page. neither; plain = tt }
-free (alters rid slot) is = record { says = λ f h t live. live; latches = λ page. neither; plain = tt }
-free (rolls aim) is = record { says = λ f h t live. live; latches = λ page. neither; plain = tt }
-free other is = absurd is
+free stage is = grind (arith, nat_tests)
 
 -- what the session has to show where its transaction stays, of the record, the locks and the stage
 pub record Stays (format : Format) (s : State) (k : ℕ) (logged : Option Act) (locks : List Grant) (stage : Stage) : Type 0 where
@@ -136,9 +116,7 @@ heads_at format s k stage has at = grind (arith, nat_tests)
 
 -- a scan begins at a plain stage
 pub scans_plain : (stage : Stage) (row : List ℕ) (from : ℕ) → Scans stage row from → IsPlain stage
-scans_plain idle row from scans = tt
-scans_plain (seeks sought on) row from scans = tt
-scans_plain other row from scans = absurd scans
+scans_plain stage row from scans = grind (arith, nat_tests)
 
 pub begin_keeps : (format : Format) (s : State) (k : ℕ) → Kept format s → k < length s.seats → (seat_at s.seats k).txn ≡ 0
     → Kept format (with_effect s k (record { logged = None; grants = s.grants; seat = record { txn = s.next; saves = []; stage = idle }; next = s.next + 1 }))
@@ -173,9 +151,7 @@ altered_fits history txn rid (Row old) (Row new) lsn fits held room =
     (fitting_is_room.growth history (change_of history txn rid (Row old) (Row new) lsn) old new fits held refl refl).0 room
 
 owes_heads : (stage : Stage) (page : ℕ) → Owes stage page → Heads stage page
-owes_heads (settles outcome on) page owes = owes
-owes_heads (compensates aim on) page owes = owes
-owes_heads other page owes = absurd owes
+owes_heads stage page owes = grind (arith, nat_tests)
 
 -- ---- what a turn leaves of other transactions
 
