@@ -36,9 +36,7 @@ size_some (marks (lists l)) = omega (arith, length-checkpoint l.next l.losers l.
 
 -- the next LSN is above the newest one, and within a batch's header of the log's end
 pub next_above : (history : History) (lsn : ℕ) → IsNext history lsn → newest_lsn history < lsn
-next_above [] lsn is = omega (arith, is)
-next_above (newest ∷ before) lsn (inl is) = omega (arith, is, size_some newest)
-next_above (newest ∷ before) lsn (inr is) = omega (arith, is, size_some newest)
+next_above history lsn is = grind (arith, nat_tests, size_some)
 
 pub next_within : (history : History) (lsn : ℕ) → IsNext history lsn → lsn ≤ end_of history + 5
 next_within history lsn is = grind (arith, nat_tests)

@@ -101,13 +101,8 @@ module _ (format : Format) (pages : ℕ) (s : State) (k : ℕ) (seat : Seat) (se
   latch_says stage page e is says = grind (arith, nat_tests)
 
   own_says : (turn : Turn) → IsInOrder s.history → May format pages s k seat turn → Said seat.stage → SaysThen turn
-  own_says (skip op) ordered may says = rw may.0 tt
-  own_says unname ordered may says = rw may tt
-  own_says (refuse op rid) ordered may says = rw may.0 tt
-  own_says (wait op rid alone holder) ordered may says = rw may.0.at tt
-  own_says (scan row from to true) ordered may says = scan_says seat.stage row from to true may.at says
-  own_says (scan row from to false) ordered may says = (scan_says seat.stage row from to false may.at says, part_some pages from to may.stops.0 may.stops.1)
-  own_says (latch page) ordered may says = latch_says seat.stage page (event_at pages s k seat (latch page)) may.wants_it says
+  own_says (scan row from to false) ordered may says =
+      (scan_says seat.stage row from to false may.at says, part_some pages from to may.stops.0 may.stops.1)
   own_says (try row page slot) ordered may says = (try_says page slot (rw may.0.at at says), omega arith)
   own_says (insert row rid lsn) ordered may says =
       let c : Change = change_of s.history seat.txn rid Vacant (Row row) lsn in (tt, (c, (pending_of s.history seat.txn, pending-change c s.history), (refl, refl)))
@@ -119,10 +114,7 @@ module _ (format : Format) (pages : ℕ) (s : State) (k : ℕ) (seat : Seat) (se
       let act : Act = commits (record { lsn = known.1.0; txn = seat.txn }) in
       let below : known.1.0 < durable = omega (arith, may.1, logged_below s.history act ordered known.1.1) in
       record { lsn = known.1.0; durable = durable; logged = known.1.1; told = inl (refl, known.0); below = below }
-  own_says (prepared aim last) ordered may says = rw may.0 at says
-  own_says (prepare aim last lsn) ordered may says = rw may.at at says
-  own_says (compensate aim last lsn) ordered may says = rw may.0 at says
-  own_says other ordered may says = tt
+  own_says turn ordered may says = grind (arith, nat_tests, scan_says, latch_says)
 
 abbrev pub SaysOf : List Event → History → ℕ → Seat → Type 0
 SaysOf trace history k seat = Says (seens_of trace k) trace history seat.txn seat.stage
@@ -198,9 +190,6 @@ module _ (format : Format) (pages : ℕ) (s : State) (k : ℕ) (seat : Seat) (se
 -- where no page is left, it is told that there is no space
 pub ends_told : (format : Format) (pages : ℕ) (s : State) (k : ℕ) (seat : Seat) (turn : Turn) → May format pages s k seat turn
     → EndsSearch pages (seen_of pages s seat turn) → (row : List ℕ) × (outcome_of turn ≡ Some (no_space row))
-ends_told format pages s k seat (scan row from to true) may last = absurd cc
-ends_told format pages s k seat (scan row from to false) may last = absurd (omega (arith, last.0, may.stops.1))
 ends_told format pages s k seat (scan_last row from) may last = (row, refl)
-ends_told format pages s k seat (try row page slot) may last = absurd (omega (arith, last, may.1))
 ends_told format pages s k seat (try_last row page slot) may last = (row, refl)
-ends_told format pages s k seat other may last = absurd last
+ends_told format pages s k seat turn may last = absurd (grind (arith, nat_tests))

@@ -121,9 +121,7 @@ module _ (m : Setting) (s : State) (k lsn : ℕ) (among : k < length s.seats) (n
 
   reaching_good : (op : Op) (aim : Aim) (pending : List Change) → On (rolls aim) → pending_of s.history seat.txn ≡ pending → AreFalling pending
       → last_of pending ≤ target_of aim → Made op (reaching aim lsn)
-  reaching_good op (undoes_all outcome) [] on is falls low = made on.at tt on.some (on.at, is, next) tt
-  reaching_good op (undoes_all outcome) (last ∷ rest) on is falls low = absurd (omega (arith, falls.0))
-  reaching_good op (returns number to) pending on is falls low = grind (arith, nat_tests)
+  reaching_good op aim pending on is falls low = grind (arith, nat_tests)
 
   rolling_good : (op : Op) (aim : Aim) (list : List Change) → On (rolls aim) → pending_of s.history seat.txn ≡ list → Good op (rolling s k lsn aim list)
   rolling_good op aim [] on is = reaching_good op aim [] on is tt (omega arith)
@@ -203,9 +201,7 @@ chosen_is_move m k lsn op run among next =
     (good.is_move, good.moves)
 
 offset_is_next : (history : History) (more : Bool) → IsNext history (offset_after history more)
-offset_is_next [] more = refl
-offset_is_next (newest ∷ before) false = inl refl
-offset_is_next (newest ∷ before) true = inr refl
+offset_is_next history more = grind (arith, nat_tests)
 
 pub moves_exist : MovesExist
 moves_exist m k op run among =

@@ -5,7 +5,7 @@ use Rattle.rm_core.specs.Names.{HasGrant, Blocks, Latches, Looks, IsReading, Bar
 use Rattle.rm_core.specs.Names.{compensates, reads, Seat, Grant, State, seat_at, empty_seat}
 use Rattle.rm_play.specs.{first_from, blocks_it, blocker, is_vacant, is_free, past_locks, slot_for, latches_it, looks_at, is_reading, bars_it, first_barring}
 use Rattle.rm_play.specs.{has_number}
-use Rattle.rm_core.proofs.Names.{inl, inr, cond, leb, refl, ap, subst, arith, cases_eq, cases_lt, cond_both, leb-true, le-leb, not_from_Decides, Decides-like}
+use Rattle.rm_core.proofs.Names.{nat_tests, inl, inr, cond, leb, refl, ap, subst, arith, cases_eq, cases_lt, cond_both, leb-true, le-leb, not_from_Decides, Decides-like}
 use Rattle.rm_core.proofs.Names.{Decides-not, Decides-and, Decides-or, Decides-eqb, get_or_past, same_place, is_same_place-refl}
 use Rattle.rm_core.proofs.Grants.{alone_has}
 
@@ -31,12 +31,7 @@ decides_number [] number = decides_never
 decides_number (first ∷ points) number = Decides-or _ _ (Decides-eqb first.number number) (decides_number points number)
 
 decides_latches : (stage : Stage) (page : ℕ) → Decides (latches_it stage page) (Latches stage page)
-decides_latches (tries row on) page = Decides-eqb on page
-decides_latches (sets rid new) page = Decides-eqb rid.page page
-decides_latches (settles outcome on) page = Decides-eqb on page
-decides_latches (prepares aim on) page = Decides-eqb on page
-decides_latches (compensates aim on) page = Decides-eqb on page
-decides_latches other page = decides_never
+decides_latches stage page = grind (arith, nat_tests)
 
 decides_looks : (stage : Stage) (page : ℕ) → Decides (looks_at stage page) (Looks stage page)
 decides_looks (fetches rid) page = Decides-eqb rid.page page

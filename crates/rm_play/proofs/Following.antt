@@ -40,9 +40,7 @@ stands_follows closes lines done left names seat (inl going) = inl (going.rest, 
 stands_follows closes lines done left names seat (inr closed) = inr (closed.closing, closed.aborted)
 
 closes_true : (closes : Bool) (txn : ℕ) (op : Op) (names : List (Option Rid)) → op_at closes [] names txn ≡ Some op → (closes ≡ true) × (op ≡ ops.Abort) × (txn ≡ 0 → ⊥)
-closes_true false txn op names is = absurd cc
-closes_true true zero op names is = absurd cc
-closes_true true (suc txn) op names is = (refl, (let same : Some ops.Abort ≡ Some op = is in cc), λ none. cc)
+closes_true closes txn op names is = grind (arith, nat_tests)
 
 -- a turn that finishes its operation, or goes on with it
 turn_stands : (closes : Bool) (lines : List Line) (done : List Outcome) (left : List Line) (names : List (Option Rid)) (txn : ℕ) (stage : Stage) (outcome : Option Outcome) (seat : Seat) (op : Op)
@@ -237,9 +235,7 @@ actor_good closes scripts old new Flush (Some (rests Flush (sees.Force durable))
 actor_good closes scripts old new actor move good by stop = absurd by
 
 no_stop : (closes : Bool) (move : Option Move) → GoesOn closes move → (made : Move) → move ≡ Some made → IsStop made → closes ≡ true
-no_stop true move on made is stops = refl
-no_stop false (Some move) on made is stops = absurd (on (let same : move ≡ made = cc in subst IsStop (sym same) stops))
-no_stop false None on made is stops = absurd cc
+no_stop closes move on made is stops = grind (arith, nat_tests)
 
 actors_good : (closes : Bool) (scripts : List (List Line)) (actors : List Actor) (old new : Progress) → Good closes scripts old → ByActors closes old actors new → Good closes scripts new
 actors_good closes scripts [] old new good by = subst (Good closes scripts) (sym by) good

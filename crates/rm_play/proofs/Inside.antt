@@ -3,7 +3,7 @@ use Rattle.rm_core.specs.Below.{ℕ, length, ◌^◌, ◌<◌, ◌≤◌, true, 
 use Rattle.rm_core.specs.Names.{Effect, effect, goes_to, latched, staged, with_effect, May, Wants, Setting, again, log_full, spent, Move, turns, answered}
 use Rattle.rm_core.specs.Names.{appends, append_refused, rests, Moves, Machine, IsRun, Stage, idle, wants, tries, Seat, State, seat_at, Turn, skip, unname}
 use Rattle.rm_core.specs.Names.{refuse, begin, scan, latch, wait}
-use Rattle.rm_core.proofs.Names.{sym, subst, arith}
+use Rattle.rm_core.proofs.Names.{nat_tests, sym, subst, arith}
 use Rattle.rm_core.proofs.Runs.{each_seat, kept_along, seat_of, setting_of, seat_empty}
 
 abbrev pub Within : ℕ → Stage → Type 0
@@ -17,21 +17,11 @@ pub record Inside (pages : ℕ) (s : State) : Type 0 where
 
 latch_within : (pages : ℕ) (s : State) (seat : Seat) (stage : Stage) (page : ℕ) → Within pages stage → Wants s seat stage page
     → Within pages (latched stage page)
-latch_within pages s seat (wants row on) page within is = subst (λ (n : ℕ). n < pages) is within
-latch_within pages s seat (tries row on) page within is = within
-latch_within pages s seat other page within is = tt
+latch_within pages s seat stage page within is = grind (arith, nat_tests)
 
 turn_inside : (format : Format) (pages : ℕ) (s : State) (k : ℕ) (seat : Seat) (turn : Turn) → Within pages seat.stage → s.next ≤ 2 ^ 32
     → May format pages s k seat turn → Within pages (effect format s seat turn).seat.stage × ((effect format s seat turn).next ≤ 2 ^ 32)
-turn_inside format pages s k seat (skip op) within ids may = (within, ids)
-turn_inside format pages s k seat unname within ids may = (within, ids)
-turn_inside format pages s k seat (refuse op rid) within ids may = (within, ids)
-turn_inside format pages s k seat (wait op rid alone holder) within ids may = (within, ids)
-turn_inside format pages s k seat (begin txn) within ids may = (tt, omega (arith, may.2))
-turn_inside format pages s k seat (scan row from to true) within ids may = (omega (arith, may.stops.0), ids)
-turn_inside format pages s k seat (scan row from to false) within ids may = (tt, ids)
-turn_inside format pages s k seat (latch page) within ids may = (latch_within pages s seat seat.stage page within may.wants_it, ids)
-turn_inside format pages s k seat other within ids may = (tt, ids)
+turn_inside format pages s k seat turn within ids may = grind (arith, nat_tests)
 
 effect_inside : (pages : ℕ) (s : State) (k : ℕ) (e : Effect) → Inside pages s → k < length s.seats → Within pages e.seat.stage × (e.next ≤ 2 ^ 32)
     → Inside pages (with_effect s k e)

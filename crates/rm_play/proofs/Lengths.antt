@@ -57,30 +57,17 @@ module _ (format : Format) (pages : ℕ) (s : State) (k : ℕ) (op : Op) (kept :
   at_once turn at none = first turn at (λ takes. omega (arith, none, most_some pages pending op))
 
   near_scan : (stage : Stage) (row : List ℕ) (from to : ℕ) (found : Bool) → seat.stage ≡ stage → Scans stage row from → May format pages s k seat (scan row from to found) → Nears (scan row from to found)
-  near_scan idle row from to true at scans may = first (scan row from to true) at (λ takes. subst (λ (o : Op). search_turns pages to + 1 ≤ most_turns pages pending o) (sym takes) (omega arith))
-  near_scan idle row from to false at scans may = grind (arith, nat_tests)
-  near_scan (seeks sought on) row from to true at scans may = next (seeks sought on) (scan row from to true) at (λ no. cc) (omega arith)
-  near_scan (seeks sought on) row from to false at scans may = next (seeks sought on) (scan row from to false) at (λ no. cc) (omega arith)
-  near_scan other row from to found at scans may = absurd scans
+  near_scan stage row from to found at scans may = grind (arith, nat_tests)
 
   near_scan_last : (stage : Stage) (row : List ℕ) (from : ℕ) → seat.stage ≡ stage → Scans stage row from → Nears (scan_last row from)
-  near_scan_last idle row from at scans = at_once (scan_last row from) at refl
-  near_scan_last (seeks sought on) row from at scans = next (seeks sought on) (scan_last row from) at (λ no. cc) (omega arith)
-  near_scan_last other row from at scans = absurd scans
+  near_scan_last stage row from at scans = grind (arith, nat_tests)
 
   near_latch : (stage : Stage) (page : ℕ) → seat.stage ≡ stage → Wants s seat stage page → Nears (latch page)
-  near_latch (wants row on) page at is = grind (arith, nat_tests)
-  near_latch (reads rid) page at is = next (reads rid) (latch page) at (λ no. cc) (subst (λ (st : Stage). left_at pages pending (latched st page) < 2) (sym at) (omega arith))
-  near_latch (alters rid slot) page at is = next (alters rid slot) (latch page) at (λ no. cc) (subst (λ (st : Stage). left_at pages pending (latched st page) < 3) (sym at) (omega arith))
-  near_latch (rolls aim) page at is = grind (arith, nat_tests)
-  near_latch other page at is = absurd is
+  near_latch stage page at is = grind (arith, nat_tests)
 
   -- a lock that is refused may end the transaction
   most_died : (o : Op) (rid : Rid) (alone : Bool) → Asks o rid alone → 3 * length pending + 2 ≤ most_turns pages pending o
-  most_died (ops.Read place) rid alone asks = omega arith
-  most_died (ops.Update place row) rid alone asks = omega arith
-  most_died (ops.Delete place) rid alone asks = omega arith
-  most_died other rid alone asks = absurd asks
+  most_died o rid alone asks = grind (arith, nat_tests)
 
   near : (turn : Turn) → IsSeated seat turn → May format pages s k seat turn → Nears turn
   near (skip o) seated may = at_once (skip o) may.0 (ap (left_at pages pending) may.0)

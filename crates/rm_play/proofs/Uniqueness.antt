@@ -23,10 +23,7 @@ no_it {X} {A} {b} {y} x decides not = if_else b x y (λ (z : X). y ≡ z) decide
 
 -- what is least with a property is one
 found_one : (P : ℕ → Type 0) (one other : Option ℕ) → IsLeast P one → IsLeast P other → one ≡ other
-found_one P None None is has = refl
-found_one P None (Some j) is has = absurd (is j has.0)
-found_one P (Some i) None is has = absurd (has i is.0)
-found_one P (Some i) (Some j) is has = grind (arith, nat_tests)
+found_one P one other is has = grind (arith, nat_tests)
 
 -- the chosen move at an offset of 0, by the stage first
 abbrev pivot_at : Setting → State → ℕ → Op → Stage → Move
@@ -59,9 +56,7 @@ module _ (m : Setting) (s : State) (k : ℕ) (op : Op) (bare : (seat_at s.seats 
   asked_is some at takes is = at_stage at (ap (turns k) (is ∙ ap (asking m s k 0) (sym (takes at))) ∙ no_it _ (Decides-eqb seat.txn 0) some)
 
   skip_is : (o : Op) → seat.stage ≡ idle → op ≡ o → IsSkipped seat o → Is (turns k (skip o))
-  skip_is ops.Unbound at same is = absurd is
-  skip_is ops.Begin at same is = asked_is is at (λ idles. same) refl
-  skip_is o at same is = outside_is at same is refl
+  skip_is o at same is = grind (arith, nat_tests)
 
   abbrev Open : List ℕ → ℕ → Type 0
   Open row page = category_bytes m.format * entry_of s.history page + length row ≤ CAPACITY
@@ -73,15 +68,10 @@ module _ (m : Setting) (s : State) (k : ℕ) (op : Op) (bare : (seat_at s.seats 
 
   scan_is : (stage : Stage) (row : List ℕ) (from : ℕ) {turn : Turn} → seat.stage ≡ stage → (seat.txn ≡ 0 → ⊥) → Scans stage row from
       → (seat.stage ≡ idle → op ≡ ops.Insert row) → turn ≡ scanning m s row from → Is (turns k turn)
-  scan_is idle row from at some begins inserts is = asked_is some at inserts (is ∙ ap (scanning m s row) begins)
-  scan_is (seeks sought on) row from at some goes inserts is = grind (arith, nat_tests)
-  scan_is other row from at some never inserts is = absurd never
+  scan_is stage row from at some never inserts is = grind (arith, nat_tests)
 
   asks_it : (o : Op) (rid : Rid) (alone : Bool) → Asks o rid alone → locking m s seat o rid alone ≡ asking m s k 0 o
-  asks_it (ops.Read place) rid alone asks = rw (← asks.0, asks.1) refl
-  asks_it (ops.Update place row) rid alone asks = rw (← asks.0, asks.1) refl
-  asks_it (ops.Delete place) rid alone asks = rw (← asks.0, asks.1) refl
-  asks_it other rid alone asks = absurd asks
+  asks_it o rid alone asks = grind (arith, nat_tests)
 
   decides_inside : (rid : Rid) → Decides (nat_lt rid.page m.pages && nat_le rid.slot MAX_SLOT) (IsInside m.pages rid)
   decides_inside rid = Decides-and _ _ (Decides-ltb rid.page m.pages) (decides_le rid.slot MAX_SLOT)
@@ -95,11 +85,7 @@ module _ (m : Setting) (s : State) (k : ℕ) (op : Op) (bare : (seat_at s.seats 
   blocked is = ((is.other, is.blocks), λ lower below keeps. is.least lower below keeps.0 keeps.1)
 
   wanting : (stage : Stage) (page : ℕ) → seat.stage ≡ stage → Wants s seat stage page → Is (latching_at s k page)
-  wanting (wants row on) page at is = at_stage at (ap (latching_at s k) (sym is))
-  wanting (reads rid) page at is = at_stage at (ap (latching_at s k) (sym is))
-  wanting (alters rid new) page at is = at_stage at (ap (latching_at s k) (sym is))
-  wanting (rolls aim) page at is = grind (arith, nat_tests)
-  wanting other page at is = absurd is
+  wanting stage page at is = grind (arith, nat_tests)
 
   latching_is : (page : ℕ) (found : Option ℕ) → Wants s seat seat.stage page → IsLeast (Bars s k page) found → Is (latching s k page found)
   latching_is page found wants_it least = ap (latching s k page) (found_one _ _ _ least (barring_is_least s k page)) ∙ wanting seat.stage page refl wants_it
@@ -121,9 +107,7 @@ module _ (m : Setting) (s : State) (k : ℕ) (op : Op) (bare : (seat_at s.seats 
 
   alter_is : (rid : Rid) (held slot : Slot) → SlotFits s.history seat.txn rid held slot → need (alter rid slot 0) ≤ m.limit
       → turns k (alter rid slot 0) ≡ altering_to m s k 0 rid held slot
-  alter_is rid Vacant slot fits room = absurd fits
-  alter_is rid (Row old) Vacant fits room = yes_it _ (decides_le _ m.limit) room
-  alter_is rid (Row old) (Row new) fits room = yes_it _ (decides_le _ m.limit) room ∙ yes_it _ (decides_le _ CAPACITY) fits
+  alter_is rid held slot fits room = grind (arith, nat_tests)
 
   lack_is : (rid : Rid) (held : Slot) (row : List ℕ) → (held ≡ Vacant → ⊥) → (SlotFits s.history seat.txn rid held (Row row) → ⊥)
       → turns k (lack rid row (unreserved s.history seat.txn rid.page)) ≡ altering_to m s k 0 rid held (Row row)
@@ -207,10 +191,7 @@ Chooses (answered j answer) choice = answered j answer ≡ choice
 Chooses move choice = ⊥
 
 lacks_asks : (limit at : ℕ) (turn : Turn) (new : State) → Lacks limit at turn new → AsksRoom (erased turn)
-lacks_asks limit at (begin txn) new lacks = tt
-lacks_asks limit at (insert row rid lsn) new lacks = tt
-lacks_asks limit at (alter rid slot lsn) new lacks = tt
-lacks_asks limit at other new lacks = absurd lacks
+lacks_asks limit at turn new lacks = grind (arith, nat_tests)
 
 asks_room : (turn : Turn) → AsksRoom (erased turn) → AsksRoom turn
 asks_room (begin txn) asks = asks
@@ -220,13 +201,7 @@ asks_too : (j i : ℕ) (turn other : Turn) → AsksRoom (erased turn) → turns 
 asks_too j i turn other asks both = let same : erased turn ≡ erased other = cc in asks_room other (subst AsksRoom same asks)
 
 alike : (move other choice : Move) → Chooses move choice → Chooses other choice → IsAlike move other
-alike (turns j turn) (turns i other) choice is has = (cc, cc)
-alike (turns j turn) (answered i (log_full at)) choice is has = let both = has.2 ∙ sym is in (cc, asks_too i j has.0 turn has.1 both)
-alike (answered j (log_full at)) (turns i turn) choice is has = let both = is.2 ∙ sym has in (cc, asks_too j i is.0 turn is.1 both)
-alike (answered j (log_full at)) (answered i (log_full end_at)) choice is has = let both = is.2 ∙ sym has.2 in cc
-alike (answered j (again by)) (answered i (again other)) choice is has = (cc, cc)
-alike (answered j (spent last)) (answered i (spent other)) choice is has = (cc, cc)
-alike move other choice is has = grind arith
+alike move other choice is has = grind (arith, nat_tests)
 
 module _ (m : Setting) (s : State) (k : ℕ) (op : Op) (kept : Kept m.format s) where
   abbrev limited : ℕ → Setting
