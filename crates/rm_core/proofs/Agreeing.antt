@@ -125,13 +125,11 @@ running_still pages s new trace more seat pending keeps same running some active
 
 -- a slot without a row is vacant
 vacant_is : (slot : Slot) → row_of slot ≡ None → slot ≡ Vacant
-vacant_is Vacant none = refl
-vacant_is (Row row) none = absurd cc
+vacant_is slot none = grind (arith, nat_tests)
 
 -- the last pending change is not past the target
 reached : (all : List Change) (lsn : ℕ) → ((last : Change) (rest : List Change) → all ≡ last ∷ rest → last.lsn ≤ lsn) → last_of all ≤ lsn
-reached [] lsn to = omega arith
-reached (last ∷ rest) lsn to = to last rest refl
+reached all lsn to = grind (arith, nat_tests)
 
 -- a change past the target is undone
 undone : (points : List (Savepoint ℕ)) (told : List Outcome) (aim : Aim) (last : Change) (rest : List Change) → target_of aim < last.lsn
@@ -369,22 +367,16 @@ module _ {format : Format} {pages : ℕ} {trace : List Event} {s : State} (k : �
 
   -- another transaction keeps its locks
   spares : (turn : Turn) → IsSeated seat turn → May format pages s k seat turn → (other : ℕ) → (other ≡ txn → ⊥) → KeepsLocks s (left turn) other
-  spares (insert row rid lsn) seated may other differs at has = (joined_more s.grants _ other at has, refl)
-  spares (lock rid) seated may other differs at has = (joined_more s.grants _ other at has, refl)
-  spares (lock_alone rid slot) seated may other differs at has = (joined_more s.grants _ other at has, refl)
   spares (commit lsn) seated may other differs at has =
       let unfinished : IsFinished s.history txn → ⊥ = (kept.seated k seated).active (λ over. subst IsOver may.0 over) in
       let free : IsChanged pending at → ⊥ = λ changed.
       differs (sym (kept.apart txn other at (kept.granted txn at (changed_has_change s.history txn at changed) unfinished) has)) in
       (has, applied_free (rows_of_log s.history) at pending free)
-  spares finish seated may other differs at has = (released_any s.grants txn other at differs has, refl)
-  spares (end outcome lsn) seated may other differs at has = (released_any s.grants txn other at differs has, refl)
-  spares turn seated may other differs at has = (has, refl)
+  spares turn seated may other differs at has = grind (arith, nat_tests, joined_more, released_any)
 
   -- its transaction's id is below the next one, and no other session's
   ids : (turn : Turn) → May format pages s k seat turn → (txn_of seat turn < (left turn).next) × (s.next ≤ (left turn).next)
       × ((j : ℕ) → (j ≡ k → ⊥) → ((seat_at s.seats j).txn ≡ 0 → ⊥) → (seat_at s.seats j).txn ≡ txn_of seat turn → ⊥)
-  ids (begin id) may = grind (arith, nat_tests)
   ids turn may = grind (arith, nat_tests)
 
   -- the transactions in the order are finished

@@ -20,8 +20,7 @@ pub owes_latches : (stage : Stage) (page : ℕ) → Owes stage page → Latches 
 owes_latches stage page owes = grind (arith, nat_tests)
 
 readies_latches : (stage : Stage) (page : ℕ) → Readies stage page → Latches stage page
-readies_latches (compensates target on) page readies = readies
-readies_latches other page readies = absurd readies
+readies_latches stage page readies = grind (arith, nat_tests)
 
 -- more locks leave a stage the lock that it goes by
 locked_more : (grants locks : List Grant) (txn : ℕ) (stage : Stage) → ((rid : Rid) → More grants locks txn rid) → Locked grants txn stage

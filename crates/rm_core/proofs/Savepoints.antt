@@ -1,7 +1,7 @@
 -- A transaction's savepoints: each stands for the rows that its changes up to an LSN make.
 use Rattle.rm_core.specs.Below.{◌≡◌, ℕ, ◌<◌, ◌≤◌, List, [], ◌∷◌, Rid, Rows, Change, last_of, applied}
 use Rattle.rm_core.specs.Names.{Savepoint, dropped, upto, HasNumber, value_at}
-use Rattle.rm_core.proofs.Names.{inl, inr, cond, ltb, refl, sym, ap, ◌∙◌, arith, cases_eq, lt-ltb, le-ltb, eq-eqb, ne_eqb}
+use Rattle.rm_core.proofs.Names.{nat_tests, inl, inr, cond, ltb, refl, sym, ap, ◌∙◌, arith, cases_eq, lt-ltb, le-ltb, eq-eqb, ne_eqb}
 
 -- the pending changes up to an LSN
 abbrev pub until : ℕ → List Change → List Change
@@ -12,8 +12,7 @@ pub until_less : (lsn : ℕ) (c : Change) (pending : List Change) → lsn < c.ls
 until_less lsn c pending less = rw (lt-ltb lsn c.lsn less)
 
 pub until_all : (lsn : ℕ) (pending : List Change) → last_of pending ≤ lsn → until lsn pending ≡ pending
-until_all lsn [] reached = refl
-until_all lsn (newest ∷ before) reached = rw (le-ltb lsn newest.lsn reached)
+until_all lsn pending reached = grind (arith, nat_tests)
 
 -- The changes up to this LSN, which end at it, make these rows.
 abbrev pub MadeAt : Rows → List Change → ℕ → Rows → Type 0

@@ -37,8 +37,7 @@ abbrev Replaces : ℕ → Rows → List Outcome → Rows → List Outcome → Ty
 Replaces pages other told one more = ((single_after one more).rows ≡ (single_after other told).rows) × (Allowed pages other told → Allowed pages one more)
 
 like : (pages : ℕ) (one other : Rows) (told more : List Outcome) → one ≡ other → Like told more → Replaces pages other told one more
-like pages one other told more same (inl is) = subst₂ (Replaces pages other told) (sym same) (sym is) (refl, λ allowed. allowed)
-like pages one other told more same (inr said) = subst₂ (Replaces pages other told) (sym same) (sym said) (refl, λ allowed. (allowed, tt))
+like pages one other told more same is = grind (arith, nat_tests)
 
 all_like : (pages : ℕ) (start : History) (ops more : ℕ → List Outcome) (order : List ℕ) → ((txn : ℕ) → IsAmong order txn → Like (ops txn) (more txn))
     → (after_all start more order ≡ after_all start ops order)
@@ -118,8 +117,7 @@ Serial o trace s = Ordered o.setting.pages o.history (ops_of trace) (order_of tr
 
 -- what is allowed with one more operation is so without it
 allowed_told : (pages : ℕ) (rows : Rows) (more : Option Outcome) (told : List Outcome) → Allowed pages rows (onto more told) → Allowed pages rows told
-allowed_told pages rows None told allowed = allowed
-allowed_told pages rows (Some outcome) told allowed = allowed.0
+allowed_told pages rows more told allowed = grind (arith, nat_tests)
 
 module _ (m : Machine) (run : IsRun m) (it : Serial m.opening m.trace m.state) where
   abbrev format : Format

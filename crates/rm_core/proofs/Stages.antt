@@ -44,12 +44,10 @@ Says seens trace history txn (compensates aim on) = IsAimed aim
 Says seens trace history txn other = Unit {0}
 
 pub among_more : (seen : Seen) (named : ℕ) (order : List ℕ) (txn : ℕ) → IsAmong order txn → IsAmong (ordered_with seen named order) txn
-among_more (sees.Commit lsn) named order txn is = inr is
-among_more other named order txn is = is
+among_more seen named order txn is = grind (arith, nat_tests)
 
 logged_more : (logged : Option Act) (history : History) (act : Act) → IsLogged history act → IsLogged (logging logged history) act
-logged_more None history act is = is
-logged_more (Some newest) history act is = inr is
+logged_more logged history act is = grind (arith, nat_tests)
 
 pub durable_more : (logged : Option Act) (history : History) (e : Event) (trace : List Event) (txn : ℕ) → IsDurable history trace txn
     → IsDurable (logging logged history) (e ∷ trace) txn

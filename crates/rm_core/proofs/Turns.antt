@@ -48,8 +48,7 @@ module _ (format : Format) (history : History) (txn : ℕ) where
 
   said_ready : (stage : Stage) → Says stage → (page : ℕ) → Readies stage page → (last : Change) (rest : List Change)
       → pending_of history txn ≡ last ∷ rest → (last.rid.page ≡ page) × (entry_of history page ≡ category_after format history last)
-  said_ready (compensates aim on) says page here last rest is = grind (arith, nat_tests)
-  said_ready other says page here last rest is = absurd here
+  said_ready stage says page here last rest is = grind (arith, nat_tests)
 
   seated_so : (next : ℕ) (saves : List (Savepoint ℕ)) (stage : Stage) → txn < next → Says stage
       → Seated format history next (record { txn = txn; saves = saves; stage = stage })
@@ -77,8 +76,7 @@ IsFree (rolls aim) = Unit {0}
 IsFree other = ⊥
 
 neither : ⊥ ⊎ ⊥ → ⊥
-neither (inl h) = h
-neither (inr h) = h
+neither p0 = grind (arith, nat_tests)
 
 -- what such a stage has to show
 pub record Free (stage : Stage) : Type 0 where

@@ -122,9 +122,7 @@ left_put other l k [] is = inr (sym is)
 
 names_put : (outcome : Option Outcome) (l : List (List (Option Rid))) (lines : List (List Line)) (k : ℕ) (left : List Line) → length l ≡ length lines → slice_index_or lines k [] ≡ left
     → (k < length l) ⊎ (names_with outcome left (slice_index_or l k []) ≡ slice_index_or l k [])
-names_put outcome l lines k (line ∷ left) sized is = let below : k < length lines = below_length lines k line left is in inl (omega (arith, sized, below))
-names_put None l lines k [] sized is = inr refl
-names_put (Some outcome) l lines k [] sized is = inr refl
+names_put outcome l lines k left sized is = grind (arith, nat_tests, below_length)
 
 record Good (closes : Bool) (scripts : List (List Line)) (p : Progress) : Type 0 where
   run : IsRun p.machine

@@ -70,33 +70,11 @@ module _ (format : Format) (pages : ℕ) (s : State) (k : ℕ) (op : Op) (kept :
   most_died o rid alone asks = grind (arith, nat_tests)
 
   near : (turn : Turn) → IsSeated seat turn → May format pages s k seat turn → Nears turn
-  near (skip o) seated may = at_once (skip o) may.0 (ap (left_at pages pending) may.0)
-  near unname seated may = at_once unname may (ap (left_at pages pending) may)
-  near (refuse o rid) seated may = at_once (refuse o rid) may.0 (ap (left_at pages pending) may.0)
-  near (begin txn) seated may = at_once (begin txn) (kept.bare k may.0) refl
   near (scan row from to found) seated may = near_scan seat.stage row from to found refl may.at may
   near (scan_last row from) seated may = near_scan_last seat.stage row from refl may.at
   near (latch page) seated may = near_latch seat.stage page refl may.wants_it
-  near (try row page slot) seated may = next (tries row page) (try row page slot) may.0.at (λ no. cc) (let more = may.1 in omega arith)
-  near (try_last row page slot) seated may = next (tries row page) (try_last row page slot) may.0.at (λ no. cc) (let last = may.1 in omega arith)
-  near (insert row rid lsn) seated may =
-      next (tries row rid.page) (insert row rid lsn) may.at (λ no. cc) (let within_it : rid.page < pages = inside (tries row rid.page) may.at in omega arith)
-  near (lock rid) seated may = first (lock rid) may.at (λ takes. subst (λ (o : Op). 3 ≤ most_turns pages pending o) (sym takes) (omega arith))
-  near (lock_alone rid Vacant) seated may = first (lock_alone rid Vacant) may.at (λ takes. subst (λ (o : Op). 4 ≤ most_turns pages pending o) (sym takes) (omega arith))
-  near (lock_alone rid (Row row)) seated may = first (lock_alone rid (Row row)) may.at (λ takes. subst (λ (o : Op). 4 ≤ most_turns pages pending o) (sym takes) (omega arith))
-  near (wait o rid alone holder) seated may = at_once (wait o rid alone holder) may.0.at (ap (left_at pages pending) may.0.at)
   near (die o rid alone holder) seated may = first (die o rid alone holder) may.0.at
       (λ takes. subst (λ (other : Op). 3 * above 0 pending + 1 + 1 ≤ most_turns pages pending other) takes (omega (arith, above_within 0 pending, most_died o rid alone may.2)))
-  near (fetch rid slot) seated may = next (fetches rid) (fetch rid slot) may.0 (λ no. cc) (omega arith)
-  near (miss rid slot) seated may = next (sets rid slot) (miss rid slot) may.0 (λ no. cc) (omega arith)
-  near (lack rid row room) seated may = next (sets rid (Row row)) (lack rid row room) may.0 (λ no. cc) (omega arith)
-  near (alter rid slot lsn) seated may = next (sets rid slot) (alter rid slot lsn) may.at (λ no. cc) (omega arith)
-  near (settled outcome page) seated may = next (settles outcome page) (settled outcome page) may.0 (λ no. cc) (omega arith)
-  near (settle outcome page lsn) seated may = next (settles outcome page) (settle outcome page lsn) may.at (λ no. cc) (omega arith)
-  near (commit lsn) seated may = first (commit lsn) may.0 (λ takes. subst (λ (o : Op). 3 ≤ most_turns pages pending o) (sym takes) (omega arith))
-  near (force durable) seated may = next forces (force durable) may.0 (λ no. cc) (omega arith)
-  near finish seated may = next finishes finish may (λ no. cc) (omega arith)
-  near abort seated may = first abort may (λ takes. subst (λ (o : Op). 3 * above 0 pending + 1 + 1 ≤ most_turns pages pending o) (sym takes) (omega (arith, above_within 0 pending)))
   near (prepared aim last) seated may =
       let head = heads_at format s k (prepares aim last.rid.page) (record { kept = kept; among = among; some = seated }) may.0 last.rid.page refl in
       next (prepares aim last.rid.page) (prepared aim last) may.0 (λ no. cc) (omega (arith, above_last (target_of aim) pending head.0 head.1 head.2 head.4))
@@ -111,12 +89,7 @@ module _ (format : Format) (pages : ℕ) (s : State) (k : ℕ) (op : Op) (kept :
       (pending_of-undo s.history (undo_for lsn last) last rest (subst (λ (t : ℕ). pending_of s.history t ≡ last ∷ rest) (sym mine) may.1.1)) in
       next (compensates aim last.rid.page) (compensate aim last lsn) may.0 (λ no. cc)
       (omega (arith, above_last (target_of aim) pending last rest may.1.1 may.3, ap (above (target_of aim)) undone))
-  near (end outcome lsn) seated may = next (rolls (undoes_all outcome)) (end outcome lsn) may.0 (λ no. cc) (omega arith)
-  near (save number) seated may = at_once (save number) may refl
-  near (no_target number) seated may = at_once (no_target number) may.0 refl
-  near (target number lsn) seated may = first (target number lsn) may.0
-      (λ takes. subst (λ (o : Op). 3 * above lsn pending + 1 + 1 ≤ most_turns pages pending o) (sym takes) (omega (arith, above_within lsn pending)))
-  near (back number lsn) seated may = next (rolls (returns number lsn)) (back number lsn) may.0 (λ no. cc) (omega arith)
+  near turn seated may = grind (arith, nat_tests, most_some, above_within)
 
 step_nears : (format : Format) (pages : ℕ) (old new : State) (k : ℕ) (op : Op) (turn : Turn) → Kept format old → Within pages (seat_at old.seats k).stage → Step format pages old k turn new
     → (((seat_at old.seats k).stage ≡ idle → ⊥) → turns_left pages new.history (seat_at new.seats k) < turns_left pages old.history (seat_at old.seats k))
