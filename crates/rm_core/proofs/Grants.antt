@@ -34,14 +34,8 @@ Locks grants locks = ((txn : ℕ) (rid : Rid) → More grants locks txn rid) × 
 pub no_locks : (grants : List Grant) → AreApart grants → Locks grants grants
 no_locks grants apart = (more-same grants, apart)
 
-same_is : (a b : Bool) → is_same a b ≡ true → a ≡ b
-same_is a b is = grind (arith, nat_tests)
-
 abbrev grant_of : ℕ → Rid → Bool → Grant
 grant_of txn rid alone = record { txn = txn; rid = rid; alone = alone }
-
-same_fields : (t u : ℕ) (r q : Rid) (a b : Bool) → t ≡ u → r ≡ q → a ≡ b → grant_of t r a ≡ grant_of u q b
-same_fields t u r q a b txn rid alone = cc
 
 same_grant : (a b : Grant) → is_grant a b ≡ true → a ≡ b
 same_grant a b is = grind (arith, nat_tests)

@@ -15,11 +15,8 @@ use Rattle.rm_core.proofs.Turns.{prepared_keeps, latch_keeps}
 use Rattle.rm_core.proofs.Moves.{Moved, moved-set, same_state}
 use Rattle.rm_core.proofs.Sizes.{entry_size, commit_size, end_size, undo_size, next_within, next_after}
 
-claims_owed : (stage : Stage) (bytes : ℕ) → claims_at stage bytes ≤ owes_at stage bytes
-claims_owed stage bytes = grind (arith, nat_tests)
-
 claim_owed : (history : History) (seat : Seat) → claim_of history seat ≤ owed_by history seat
-claim_owed history seat = let less = claims_owed seat.stage (bytes_for (pending_of history seat.txn)) in grind (arith, nat_tests)
+claim_owed history seat = grind (arith, nat_tests)
 
 pub all_owed : (s : State) → claims s ≤ owed s
 all_owed s = grind (arith, nat_tests, sum_below-less, claim_owed)

@@ -196,12 +196,9 @@ all_seated = kept_along (λ o trace s. AllSeated s) (record {
 
 -- ---- the sessions' claims cover the cost
 
-claims_active : (stage : Stage) (bytes : ℕ) → (IsOver stage → ⊥) → 34 + bytes ≤ claims_at stage bytes
-claims_active stage bytes not = grind (arith, nat_tests)
-
 claim_active : (history : History) (seat : Seat) → (seat.txn ≡ 0 → ⊥) → (IsOver seat.stage → ⊥)
     → 34 + bytes_for (pending_of history seat.txn) ≤ claim_of history seat
-claim_active history seat some not = rw (ne_eqb seat.txn 0 some) (claims_active seat.stage (bytes_for (pending_of history seat.txn)) not)
+claim_active history seat some not = grind (arith, nat_tests)
 
 among_seats : (seats : List Seat) (k : ℕ) → ((seat_at seats k).txn ≡ 0 → ⊥) → k < length seats
 among_seats [] k some = absurd (some refl)

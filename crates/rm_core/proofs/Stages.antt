@@ -46,9 +46,6 @@ Says seens trace history txn other = Unit {0}
 pub among_more : (seen : Seen) (named : ℕ) (order : List ℕ) (txn : ℕ) → IsAmong order txn → IsAmong (ordered_with seen named order) txn
 among_more seen named order txn is = grind (arith, nat_tests)
 
-logged_more : (logged : Option Act) (history : History) (act : Act) → IsLogged history act → IsLogged (logging logged history) act
-logged_more logged history act is = grind (arith, nat_tests)
-
 pub durable_more : (logged : Option Act) (history : History) (e : Event) (trace : List Event) (txn : ℕ) → IsDurable history trace txn
     → IsDurable (logging logged history) (e ∷ trace) txn
 durable_more logged history e trace txn is = grind (arith, nat_tests)
@@ -99,8 +96,6 @@ module _ (format : Format) (pages : ℕ) (s : State) (k : ℕ) (seat : Seat) (se
   latch_says stage page e is says = grind (arith, nat_tests)
 
   own_says : (turn : Turn) → IsInOrder s.history → May format pages s k seat turn → Said seat.stage → SaysThen turn
-  own_says (scan row from to false) ordered may says =
-      (scan_says seat.stage row from to false may.at says, part_some pages from to may.stops.0 may.stops.1)
   own_says (try row page slot) ordered may says = (try_says page slot (rw may.0.at at says), omega arith)
   own_says (insert row rid lsn) ordered may says =
       let c : Change = change_of s.history seat.txn rid Vacant (Row row) lsn in (tt, (c, (pending_of s.history seat.txn, pending-change c s.history), (refl, refl)))
@@ -112,7 +107,7 @@ module _ (format : Format) (pages : ℕ) (s : State) (k : ℕ) (seat : Seat) (se
       let act : Act = commits (record { lsn = known.1.0; txn = seat.txn }) in
       let below : known.1.0 < durable = omega (arith, may.1, logged_below s.history act ordered known.1.1) in
       record { lsn = known.1.0; durable = durable; logged = known.1.1; told = inl (refl, known.0); below = below }
-  own_says turn ordered may says = grind (arith, nat_tests, scan_says, latch_says)
+  own_says turn ordered may says = grind (arith, nat_tests, scan_says, latch_says, part_some)
 
 abbrev pub SaysOf : List Event → History → ℕ → Seat → Type 0
 SaysOf trace history k seat = Says (seens_of trace k) trace history seat.txn seat.stage
@@ -178,9 +173,6 @@ Told pages history seens trace txn other = Unit {0}
 module _ (format : Format) (pages : ℕ) (s : State) (k : ℕ) (seat : Seat) (seens : List Seen) (trace : List Event) where
   abbrev TellsIt : Turn → ℕ → Option Outcome → Type 0
   TellsIt turn txn done = Told pages (after format s k seat turn).history (seen_of pages s seat turn ∷ seens) (event_at pages s k seat turn ∷ trace) txn done
-
-  plain_told : (turn : Turn) (txn : ℕ) (outcome : Outcome) → IsPlain outcome → TellsIt turn txn (Some outcome)
-  plain_told turn txn outcome plain = grind (arith, nat_tests)
 
   pub turn_told : (turn : Turn) → May format pages s k seat turn → Says seens trace s.history seat.txn seat.stage → TellsIt turn (txn_of seat turn) (outcome_of turn)
   turn_told turn may says = grind (arith, nat_tests)

@@ -37,19 +37,6 @@ module _ (format : Format) (history : History) (txn : ℕ) where
       × (target_of aim < last.lsn) × (entry_of history on ≡ category_after format history last))
   Says other = IsFinished history txn → ⊥
 
-  said_over : (stage : Stage) → Says stage → IsOver stage → IsFinished history txn
-  said_over stage says is = grind (arith, nat_tests)
-
-  said_active : (stage : Stage) → Says stage → (IsOver stage → ⊥) → IsFinished history txn → ⊥
-  said_active stage says live = grind (arith, nat_tests)
-
-  said_head : (stage : Stage) → Says stage → (page : ℕ) → Heads stage page → HeadOn (pending_of history txn) page (target_at stage)
-  said_head stage says page here = grind (arith, nat_tests)
-
-  said_ready : (stage : Stage) → Says stage → (page : ℕ) → Readies stage page → (last : Change) (rest : List Change)
-      → pending_of history txn ≡ last ∷ rest → (last.rid.page ≡ page) × (entry_of history page ≡ category_after format history last)
-  said_ready stage says page here last rest is = grind (arith, nat_tests)
-
   seated_so : (next : ℕ) (saves : List (Savepoint ℕ)) (stage : Stage) → txn < next → Says stage
       → Seated format history next (record { txn = txn; saves = saves; stage = stage })
   seated_so next saves stage below says = grind (arith, nat_tests)
@@ -74,9 +61,6 @@ IsFree (reads rid) = Unit {0}
 IsFree (alters rid slot) = Unit {0}
 IsFree (rolls aim) = Unit {0}
 IsFree other = ⊥
-
-neither : ⊥ ⊎ ⊥ → ⊥
-neither p0 = grind (arith, nat_tests)
 
 -- what such a stage has to show
 pub record Free (stage : Stage) : Type 0 where

@@ -34,11 +34,6 @@ record Closed (closes : Bool) (lines : List Line) (done : List Outcome) (left : 
 abbrev Stands : Bool → List Line → List Outcome → List Line → List (Option Rid) → Seat → Type 0
 Stands closes lines done left names seat = Going closes lines done left names seat.stage ⊎ Closed closes lines done left seat.txn
 
-stands_follows : (closes : Bool) (lines : List Line) (done : List Outcome) (left : List Line) (names : List (Option Rid)) (seat : Seat) → Stands closes lines done left names seat
-    → FollowsLines lines done ⊎ ((closes ≡ true) × IsAborted lines done)
-stands_follows closes lines done left names seat (inl going) = inl (going.rest, going.bound, going.follows)
-stands_follows closes lines done left names seat (inr closed) = inr (closed.closing, closed.aborted)
-
 closes_true : (closes : Bool) (txn : ℕ) (op : Op) (names : List (Option Rid)) → op_at closes [] names txn ≡ Some op → (closes ≡ true) × (op ≡ ops.Abort) × (txn ≡ 0 → ⊥)
 closes_true closes txn op names is = grind (arith, nat_tests)
 

@@ -15,10 +15,6 @@ pub record Inside (pages : ℕ) (s : State) : Type 0 where
   pub within : (k : ℕ) → Within pages (seat_at s.seats k).stage
   pub ids : s.next ≤ 2 ^ 32
 
-latch_within : (pages : ℕ) (s : State) (seat : Seat) (stage : Stage) (page : ℕ) → Within pages stage → Wants s seat stage page
-    → Within pages (latched stage page)
-latch_within pages s seat stage page within is = grind (arith, nat_tests)
-
 turn_inside : (format : Format) (pages : ℕ) (s : State) (k : ℕ) (seat : Seat) (turn : Turn) → Within pages seat.stage → s.next ≤ 2 ^ 32
     → May format pages s k seat turn → Within pages (effect format s seat turn).seat.stage × ((effect format s seat turn).next ≤ 2 ^ 32)
 turn_inside format pages s k seat turn within ids may = grind (arith, nat_tests)

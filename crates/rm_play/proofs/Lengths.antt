@@ -52,10 +52,6 @@ module _ (format : Format) (pages : ℕ) (s : State) (k : ℕ) (op : Op) (kept :
   inside : (stage : Stage) → seat.stage ≡ stage → Within pages stage
   inside stage at = subst (Within pages) at within
 
-  -- a turn that ends no more than it begins
-  at_once : (turn : Turn) → seat.stage ≡ idle → left_by turn ≡ 0 → Nears turn
-  at_once turn at none = first turn at (λ takes. omega (arith, none, most_some pages pending op))
-
   near_scan : (stage : Stage) (row : List ℕ) (from to : ℕ) (found : Bool) → seat.stage ≡ stage → Scans stage row from → May format pages s k seat (scan row from to found) → Nears (scan row from to found)
   near_scan stage row from to found at scans may = grind (arith, nat_tests)
 

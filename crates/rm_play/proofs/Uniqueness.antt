@@ -193,13 +193,6 @@ Chooses move choice = ⊥
 lacks_asks : (limit at : ℕ) (turn : Turn) (new : State) → Lacks limit at turn new → AsksRoom (erased turn)
 lacks_asks limit at turn new lacks = grind (arith, nat_tests)
 
-asks_room : (turn : Turn) → AsksRoom (erased turn) → AsksRoom turn
-asks_room (begin txn) asks = asks
-asks_room other asks = asks
-
-asks_too : (j i : ℕ) (turn other : Turn) → AsksRoom (erased turn) → turns j (erased turn) ≡ turns i (erased other) → AsksRoom other
-asks_too j i turn other asks both = let same : erased turn ≡ erased other = cc in asks_room other (subst AsksRoom same asks)
-
 alike : (move other choice : Move) → Chooses move choice → Chooses other choice → IsAlike move other
 alike move other choice is has = grind (arith, nat_tests)
 
