@@ -1,18 +1,18 @@
 -- What an unfinished transaction was told is what one user alone may be told, and what it changed is what is pending.
 use Rattle.rm_core.specs.Below.{◌≡◌, ◌⊎◌, ℕ, ◌<◌, ◌≤◌, true, false, List, [], ◌∷◌, length, Option, Some, None, Format, Rid, Slot, Vacant, Row, row_of, row_at}
-use Rattle.rm_core.specs.Below.{slot_at, Rows, is_same_place, Act, Change, Undo, History, changes, undoes, commits, ends, newest_lsn, page_of, pending_of}
-use Rattle.rm_core.specs.Below.{last_of, IsFinished, HasRecord, with_slot, applied, rows_of_log, IsInOrder, undo_for, Op}
+use Rattle.rm_core.specs.Below.{slot_at, Rows, is_same_place, Change, Undo, History, changes, undoes, newest_lsn, page_of, pending_of, last_of, IsFinished}
+use Rattle.rm_core.specs.Below.{HasRecord, with_slot, applied, rows_of_log, IsInOrder, undo_for, Op}
 use Rattle.rm_history.specs.Laws.{IsChanged}
 use Rattle.rm_history.proofs.Holding.{pages_hold_what_is_pending, pages_hold_what_is_committed}
 use Rattle.rm_history.proofs.LeadsBack.{applied_free, cases_changed}
 use Rattle.rm_history.proofs.PendingLaws.{changed_has_change, changed_unfinished}
-use Rattle.rm_core.specs.Names.{change_of, staged, latched, logging, effect, after, Event, event_of, outcome_of, txn_of, IsOver, Locked, Kept, HasGrant}
-use Rattle.rm_core.specs.Names.{HoldsAlone, IsSkipped, May, IsSeated, Wants, SlotFits, closed, Single, MayDo, does, single_after, Allowed, onto, ops_of}
-use Rattle.rm_core.specs.Names.{order_of, IsAmong, Outcome, began, inserted, no_space, saw, altered, missed, full, saved, no_save, back_to, committed, skipped}
-use Rattle.rm_core.specs.Names.{refused, unbound, Scans, Aim, undoes_all, returns, target_of, Savepoint, upto, Stage, idle, seeks, wants, tries, reads, fetches}
-use Rattle.rm_core.specs.Names.{alters, sets, settles, rolls, prepares, compensates, Seat, Grant, State, seat_at, Turn, skip, unname, refuse, begin, scan}
-use Rattle.rm_core.specs.Names.{scan_last, latch, try, try_last, insert, lock, lock_alone, wait, die, fetch, miss, lack, alter, settled, settle, commit, force}
-use Rattle.rm_core.specs.Names.{finish, abort, prepared, prepare, compensate, end, save, no_target, target, back}
+use Rattle.rm_core.specs.Names.{change_of, staged, latched, effect, after, Event, event_of, outcome_of, txn_of, IsOver, Locked, Kept, HasGrant, HoldsAlone}
+use Rattle.rm_core.specs.Names.{IsSkipped, May, IsSeated, Wants, SlotFits, closed, Single, MayDo, does, single_after, Allowed, onto, ops_of, order_of, IsAmong}
+use Rattle.rm_core.specs.Names.{Outcome, began, inserted, no_space, saw, altered, missed, full, saved, no_save, back_to, committed, skipped, refused, unbound}
+use Rattle.rm_core.specs.Names.{Scans, Aim, undoes_all, returns, target_of, Savepoint, upto, Stage, idle, tries, fetches, sets, settles, rolls, prepares}
+use Rattle.rm_core.specs.Names.{compensates, Seat, Grant, State, seat_at, Turn, skip, unname, refuse, begin, scan, scan_last, latch, try, try_last, insert}
+use Rattle.rm_core.specs.Names.{lock, lock_alone, wait, die, fetch, miss, lack, alter, settled, settle, commit, force, finish, abort, prepared, prepare}
+use Rattle.rm_core.specs.Names.{compensate, end, save, no_target, target, back}
 use Rattle.rm_core.proofs.Names.{nat_tests, inl, inr, cond, refl, sym, ap, subst, subst₂, ◌∙◌, arith, cases_eq, last_is_of, pending_falls, finished_has_record}
 use Rattle.rm_core.proofs.Names.{unrecorded_has_none, pending_of-undo, if_equal, if_different, pending-change, legal_is_in_order}
 use Rattle.rm_core.proofs.Keeping.{Closes}

@@ -6,9 +6,9 @@ use Rattle.rm_core.specs.Names.{closed, aborted, died, bytes_for, claims_at, cla
 use Rattle.rm_core.specs.Names.{returns, dropped, upto, Stage, idle, seeks, wants, tries, reads, fetches, alters, sets, settles, forces, finishes, rolls}
 use Rattle.rm_core.specs.Names.{prepares, compensates, Seat, State, seat_at, Turn, skip, unname, refuse, begin, scan, scan_last, latch, try, try_last, insert}
 use Rattle.rm_core.specs.Names.{lock, lock_alone, wait, die, fetch, miss, lack, alter, settled, settle, commit, force, finish, abort, prepared, prepare}
-use Rattle.rm_core.specs.Names.{compensate, end, save, no_target, target, back, owes_at, owed_by, staged, Setting, Lacks, IsRefused}
-use Rattle.rm_core.proofs.Names.{nat_tests, set, refl, sym, ap, subst, ◌∙◌, arith, ne_eqb, length-set, last_is_of, sum_below-one, pending_of-undo, pending-undo_other}
-use Rattle.rm_core.proofs.Names.{pending-commit_other, pending-end_other, inl, inr, cond, eqb, cases_eq, eq-eqb, sum_below-less}
+use Rattle.rm_core.specs.Names.{compensate, end, save, no_target, target, back, owed_by, staged, Setting, Lacks, IsRefused}
+use Rattle.rm_core.proofs.Names.{nat_tests, set, refl, sym, ap, subst, ◌∙◌, arith, ne_eqb, length-set, last_is_of, sum_below-one, pending_of-undo}
+use Rattle.rm_core.proofs.Names.{pending-undo_other, pending-commit_other, pending-end_other, sum_below-less}
 use Rattle.rm_core.proofs.Turns.{begin_keeps, finish_keeps, end_keeps, insert_keeps, alter_keeps, settle_keeps, prepare_keeps, compensate_keeps, commit_keeps}
 use Rattle.rm_core.proofs.Turns.{Turns, IsPlain, plain, IsFree, free, left_by, goes, scans_plain, lock_keeps, lock_alone_keeps, force_keeps, settled_keeps}
 use Rattle.rm_core.proofs.Turns.{prepared_keeps, latch_keeps}

@@ -2,15 +2,15 @@
 use Rattle.rm_core.specs.Below.{◌≡◌, ◌⊎◌, ℕ, zero, suc, ◌+◌, ◌<◌, ◌≤◌, ◌==◌, if◌then◌else◌, List, [], ◌∷◌, ◌++◌, length, Option, Some, None, Format, row_length}
 use Rattle.rm_core.specs.Below.{sum_below, BATCH_HEADER, Act, Change, Undo, Finish, History, commits, ends, lists, marks, lsn_of, pending_of, of_txn, without}
 use Rattle.rm_core.specs.Below.{all_pending, IsInOrder, IsFinished, HasRecord, compensate_record, bytes_of, entry_bytes, with_undo, undoing_bytes, ending_bytes}
-use Rattle.rm_core.specs.Below.{undo_bytes, category_after, undo_for, entry_of}
+use Rattle.rm_core.specs.Below.{undo_bytes, undo_for}
 use Rattle.rm_history.specs.Losers.{without_number, losers_of, IsAmong, AreRising}
 use Rattle.rm_history.proofs.AllPending.{pending_of_all}
 use Rattle.rm_history.proofs.Losers.{losers_are_unfinished}
-use Rattle.rm_core.specs.Names.{Effect, effect, logging, staged, after, IsOver, RoomIsKept, May, IsSeated, Setting, turns, CHANGE_BYTES, bytes_for, claims_at}
-use Rattle.rm_core.specs.Names.{claim_of, claims, Opening, Machine, IsRun, moved, size_of, end_of, IsNext, Stage, idle, settles, forces, finishes, compensates}
-use Rattle.rm_core.specs.Names.{Seat, State, seat_at, Turn, skip, unname, begin, insert, alter, settle, commit, finish, prepare, compensate, end}
-use Rattle.rm_core.proofs.Names.{nat_tests, inl, inr, set, refl, sym, ap, subst, ◌∙◌, arith, length-append, cases_eq, eq-eqb, ne_eqb, last_is_unfinished, last_has_record}
-use Rattle.rm_core.proofs.Names.{sum_below-less, Elsewhere}
+use Rattle.rm_core.specs.Names.{Effect, effect, logging, staged, after, IsOver, RoomIsKept, May, IsSeated, Setting, turns, CHANGE_BYTES, bytes_for, claim_of}
+use Rattle.rm_core.specs.Names.{claims, Opening, Machine, IsRun, moved, size_of, end_of, IsNext, idle, Seat, State, seat_at, Turn, insert, alter, settle}
+use Rattle.rm_core.specs.Names.{commit, prepare, compensate, end}
+use Rattle.rm_core.proofs.Names.{nat_tests, inl, inr, set, refl, sym, ap, subst, ◌∙◌, arith, length-append, cases_eq, eq-eqb, ne_eqb, last_is_unfinished}
+use Rattle.rm_core.proofs.Names.{last_has_record, sum_below-less, Elsewhere}
 use Rattle.rm_core.proofs.Runs.{setting_of, seat_of, turned, Makes, run_in_order, kept_along, each_seat, moves_run, run_known, run_kept}
 use Rattle.rm_core.proofs.Moves.{moved-set}
 use Rattle.rm_core.proofs.Sizes.{commit_size, end_size, undo_size, next_within}

@@ -1,7 +1,7 @@
 -- A transaction's savepoints: each stands for the rows that its changes up to an LSN make.
 use Rattle.rm_core.specs.Below.{◌≡◌, ℕ, ◌<◌, ◌≤◌, List, [], ◌∷◌, Rid, Rows, Change, last_of, applied}
 use Rattle.rm_core.specs.Names.{Savepoint, dropped, upto, HasNumber, value_at}
-use Rattle.rm_core.proofs.Names.{nat_tests, inl, inr, cond, ltb, refl, sym, ap, ◌∙◌, arith, cases_eq, lt-ltb, le-ltb, eq-eqb, ne_eqb}
+use Rattle.rm_core.proofs.Names.{nat_tests, inl, inr, cond, ltb, refl, sym, ap, ◌∙◌, arith, cases_eq, lt-ltb, eq-eqb, ne_eqb}
 
 -- the pending changes up to an LSN
 abbrev pub until : ℕ → List Change → List Change

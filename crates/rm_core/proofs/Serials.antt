@@ -1,11 +1,10 @@
 -- Every run is serial: the committed transactions one after the other, in the order of their commits, and each unfinished one after them.
-use Rattle.rm_core.specs.Below.{IsFinished, ◌≡◌, ◌⊎◌, ℕ, zero, suc, ◌+◌, ◌-◌, ◌<◌, List, [], ◌∷◌, ◌++◌, length, map, drop, Option, Some, None, Format, Rid, Rows, Act}
-use Rattle.rm_core.specs.Below.{Finish, History, commits, lists, marks, pending_of, applied, rows_of_log, Session, Flush, Clean, Checkpoint, Copy, Actor, Seen}
-use Rattle.rm_core.specs.Names.{logging, effect, after, Event, event_of, RunsAreSerial, May, IsSeated, Step, Answer, again, log_full, spent, Answers, MayRest}
-use Rattle.rm_core.specs.Names.{Move, turns, answered, appends, append_refused, rests, Moves, single_after, Allowed, rows_through, AllAllowed, onto, ops_of}
-use Rattle.rm_core.specs.Names.{ordered_with, order_of, IsAmong, commits_in, Outcome, committed, Opening, Machine, IsRun, moved, idle, Seat, State, seat_at}
+use Rattle.rm_core.specs.Below.{IsFinished, ◌≡◌, ◌⊎◌, ℕ, zero, suc, ◌+◌, ◌-◌, List, [], ◌∷◌, ◌++◌, length, map, drop, Option, Some, None, Format, Rid, Rows}
+use Rattle.rm_core.specs.Below.{Act, Finish, History, commits, lists, marks, pending_of, applied, rows_of_log, Checkpoint, Actor, Seen}
+use Rattle.rm_core.specs.Names.{logging, effect, after, Event, event_of, RunsAreSerial, May, IsSeated, single_after, Allowed, rows_through, AllAllowed, onto}
+use Rattle.rm_core.specs.Names.{ops_of, ordered_with, order_of, IsAmong, commits_in, Outcome, committed, Opening, Machine, IsRun, idle, Seat, State, seat_at}
 use Rattle.rm_core.specs.Names.{Turn, commit}
-use Rattle.rm_core.proofs.Names.{nat_tests, inl, inr, eqb, refl, sym, ap, subst, subst₂, ◌∙◌, arith, one-add, length-append, cases_eq, cond_both, if_equal, if_different}
+use Rattle.rm_core.proofs.Names.{nat_tests, inl, inr, eqb, refl, sym, ap, subst, ◌∙◌, arith, one-add, length-append, cond_both}
 use Rattle.rm_core.proofs.Agreeing.{applied-same, view, Agreeing, IsQuiet, KeepsLocks, running_still, here, own, turn_agrees, closed_agrees}
 use Rattle.rm_core.proofs.Runs.{kept_along, setting_of, run_kept, txn_none}
 use Rattle.rm_core.proofs.Stages.{rest_is_quiet}

@@ -1,9 +1,9 @@
 -- How many bytes records have, and what the LSN of the next one is above.
-use Rattle.rm_core.specs.Below.{◌≡◌, ℕ, ◌+◌, ◌<◌, ◌≤◌, [], ◌∷◌, length, Rid, Slot, Vacant, Row, row_length, spelling, row_bytes, Act, Undo, Entry, Finish}
-use Rattle.rm_core.specs.Below.{History, changes, undoes, enters, commits, ends, lists, newest_lsn, marks}
+use Rattle.rm_core.specs.Below.{◌≡◌, ℕ, ◌+◌, ◌<◌, ◌≤◌, length, Rid, Slot, Vacant, Row, row_length, spelling, Act, Undo, Entry, Finish, History, changes, undoes}
+use Rattle.rm_core.specs.Below.{enters, commits, ends, lists, newest_lsn, marks}
 use Rattle.rm_record.proofs.SizeLaws.{length-checkpoint}
 use Rattle.rm_core.specs.Names.{change_record, size_of, end_of, IsNext}
-use Rattle.rm_core.proofs.Names.{nat_tests, inl, inr, refl, arith, length-append}
+use Rattle.rm_core.proofs.Names.{nat_tests, refl, arith}
 
 pub entry_size : (e : Entry) → size_of (enters e) ≡ 10
 unfolding size_of

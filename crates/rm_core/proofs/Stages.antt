@@ -1,15 +1,12 @@
 -- What a session's stage says of its turns, of the trace and of the log, along a run.
-use Rattle.rm_core.specs.Below.{◌≡◌, ◌⊎◌, ℕ, suc, ◌+◌, ◌*◌, ◌/◌, ◌<◌, ◌≤◌, Bool, true, false, List, [], ◌∷◌, length, Option, Some, None, Format, BLOCK_PAGES}
-use Rattle.rm_core.specs.Below.{Row, Vacant, slot_at, Act, Change, History, commits, lists, marks, lsn_of, newest_lsn, page_of, pending_of, IsLast, IsInOrder}
-use Rattle.rm_core.specs.Below.{entry_for, undo_for, Actor, Session, Flush, Clean, Checkpoint, Copy, Seen}
-use Rattle.rm_core.specs.Names.{IsLogged, IsDurable, Effect, change_of, setting, entry_now, effect, logging, latched, staged, after, Event, tried_of, seen_of}
-use Rattle.rm_core.specs.Names.{outcome_of, txn_of, event_of, Kept, Writes, lsn_in, TellsChange, Wants, May, MayRest, ordered_with, order_of, IsAmong, Outcome}
-use Rattle.rm_core.specs.Names.{no_space, saw, committed, Machine, IsRun, of_session, seens_of, IsHandled, EndsSearch, Scans, part_end, end_of, Aim, undoes_all}
-use Rattle.rm_core.specs.Names.{returns, Stage, idle, seeks, wants, tries, reads, alters, settles, forces, finishes, rolls, prepares, compensates, Seat, State}
-use Rattle.rm_core.specs.Names.{seat_at, Turn, skip, unname, refuse, scan, scan_last, latch, try, try_last, insert, wait, fetch, alter, settled, settle, commit}
-use Rattle.rm_core.specs.Names.{force, finish, prepared, prepare, compensate, end}
-use Rattle.rm_core.proofs.Names.{nat_tests, inl, inr, refl, sym, ap, subst, ◌∙◌, arith, cases_eq, cases_lt, eq-eqb, ne_eqb, last_is_of, pending-change, legal_is_in_order}
-use Rattle.rm_core.proofs.Names.{Elsewhere, elsewhere-none, elsewhere-change, elsewhere-undo, elsewhere-enter, elsewhere-commit, elsewhere-end}
+use Rattle.rm_core.specs.Below.{◌≡◌, ◌⊎◌, ℕ, suc, ◌+◌, ◌<◌, ◌≤◌, Bool, List, [], ◌∷◌, length, Option, Some, None, Format, Row, Vacant, slot_at, Act, Change}
+use Rattle.rm_core.specs.Below.{History, commits, lists, marks, lsn_of, newest_lsn, page_of, pending_of, IsLast, IsInOrder, Actor, Session, Seen}
+use Rattle.rm_core.specs.Names.{IsLogged, IsDurable, Effect, change_of, setting, effect, logging, latched, staged, after, Event, tried_of, seen_of, outcome_of}
+use Rattle.rm_core.specs.Names.{txn_of, event_of, Kept, Writes, lsn_in, TellsChange, Wants, May, MayRest, ordered_with, order_of, IsAmong, Outcome, no_space}
+use Rattle.rm_core.specs.Names.{saw, committed, Machine, IsRun, of_session, seens_of, IsHandled, EndsSearch, Scans, part_end, end_of, Aim, undoes_all, returns}
+use Rattle.rm_core.specs.Names.{Stage, idle, seeks, wants, tries, settles, forces, finishes, rolls, prepares, compensates, Seat, State, seat_at, Turn}
+use Rattle.rm_core.specs.Names.{scan_last, try, try_last, insert, alter, commit, force}
+use Rattle.rm_core.proofs.Names.{nat_tests, inl, inr, refl, sym, ap, subst, arith, cases_lt, eq-eqb, ne_eqb, pending-change, legal_is_in_order}
 use Rattle.rm_core.proofs.Runs.{setting_of, seat_of, append_event, rest_event, kept_along, each_seat, seat_empty, run_kept}
 use Rattle.rm_core.proofs.Turns.{turn_elsewhere}
 use Rattle.rm_core.proofs.Sizes.{size_some}

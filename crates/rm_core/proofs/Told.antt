@@ -1,9 +1,8 @@
 -- What the trace of a run tells: its log, what is acknowledged, the end of a search, and what a read is told.
-use Rattle.rm_core.specs.Below.{ℕ, List, ◌∷◌, Format, Slot, Row, Vacant, Act, History, changes, undoes, enters, commits, ends, lists, marks, entry_for}
-use Rattle.rm_core.specs.Below.{undo_for, Seen, ◌≡◌, [], Option, Some, None, suc, Session}
-use Rattle.rm_core.specs.Names.{change_of, setting, entry_now, after, Event, TracesTellLogs, TellsLog, May, seens_of, Seat, State, Turn, insert, alter, settled}
-use Rattle.rm_core.specs.Names.{settle, commit, prepare, compensate, end, IsForcedFor, IsDurable, effect, logging, event_of, AcknowledgedIsDurable, order_of}
-use Rattle.rm_core.specs.Names.{IsAmong, IsAcknowledged, committed, Machine, IsRun, no_space, EndsSearch, NoSpaceIsExact, ReadsAreExact}
+use Rattle.rm_core.specs.Below.{ℕ, List, ◌∷◌, Format, Slot, Row, Vacant, Act, History, changes, lists, marks, Seen, ◌≡◌, [], Option, Some, None, suc, Session}
+use Rattle.rm_core.specs.Names.{change_of, after, Event, TracesTellLogs, TellsLog, May, seens_of, Seat, State, Turn, insert, alter, settled, settle, commit}
+use Rattle.rm_core.specs.Names.{prepare, compensate, end, IsForcedFor, IsDurable, effect, logging, event_of, AcknowledgedIsDurable, order_of, IsAmong}
+use Rattle.rm_core.specs.Names.{IsAcknowledged, committed, Machine, IsRun, no_space, EndsSearch, NoSpaceIsExact, ReadsAreExact}
 use Rattle.rm_core.proofs.Names.{arith, nat_tests, inl, inr, refl, sym, ap, subst, eq-eqb}
 use Rattle.rm_core.proofs.Runs.{setting_of, seat_of, kept_along, append_event, rest_event, turned}
 use Rattle.rm_core.proofs.Stages.{Says, event_at, IsQuiet, rest_is_quiet, run_says, among_more, durable_more, Told, turn_told, AllHandled, ends_told}

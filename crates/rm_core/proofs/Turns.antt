@@ -10,10 +10,9 @@ use Rattle.rm_core.specs.Names.{Effect, logging, with_effect, target_at, Owes, I
 use Rattle.rm_core.specs.Names.{Latches, Looks, claims_at, Savepoint, target_of, Stage, idle, seeks, wants, reads, alters, settles, forces, finishes, rolls}
 use Rattle.rm_core.specs.Names.{prepares, compensates, Seat, Grant, State, seat_at, latched, with_grant, HasGrant, Wants, MayLatch, IsReading, Outcome, Scans}
 use Rattle.rm_core.specs.Names.{Aim, tries, fetches, sets, released, IsNext, undoes_all, empty_seat, change_of, setting, entry_now, SlotFits, MayAlter}
-use Rattle.rm_core.specs.Names.{MaySettle, MayPrepare, inserted, altered, MayInsert}
-use Rattle.rm_core.specs.Names.{May, after, Turn, insert, alter, settle, commit, prepare, compensate, end}
-use Rattle.rm_core.proofs.Names.{nat_tests, inl, inr, refl, sym, subst, ◌∙◌, arith, Elsewhere, elsewhere-none, elsewhere-end, finished_has_record, ap, eq-eqb, last_is_of}
-use Rattle.rm_core.proofs.Names.{elsewhere-change, elsewhere-undo, elsewhere-enter, elsewhere-commit, finished_or_not, finish_fits, pending-change}
+use Rattle.rm_core.specs.Names.{MaySettle, MayPrepare, inserted, altered, MayInsert, May, after, Turn, insert, alter, settle, commit, prepare, compensate, end}
+use Rattle.rm_core.proofs.Names.{nat_tests, inl, inr, refl, sym, subst, ◌∙◌, arith, Elsewhere, elsewhere-none, elsewhere-end, finished_has_record, ap, eq-eqb}
+use Rattle.rm_core.proofs.Names.{last_is_of, elsewhere-change, elsewhere-undo, elsewhere-enter, elsewhere-commit, finished_or_not, finish_fits, pending-change}
 use Rattle.rm_core.proofs.Names.{pending-commit_other, legal_is_in_order, fits_in_order, entries_follow, no_undo_lacks_room}
 use Rattle.rm_core.proofs.Grants.{Locks, no_locks, locks-joined, joined_any, joined_alone, more-released, released-less, alone_has}
 use Rattle.rm_core.proofs.Moves.{Apart, moved_holds, owes_latches}

@@ -15,7 +15,7 @@ pub use Rattle.rm_model.specs.Categories.{IsExcluded, category_of}
 pub use Rattle.rm_model.specs.Object.{Rows, is_same_place}
 pub use Rattle.rm_model.specs.Pages.{row_at, row_length, row_of, set_slot, slot_at, used}
 pub use Rattle.rm_model.specs.Sums.{sum_below}
-pub use Rattle.rm_record.specs.Records.{row_bytes, spelling}
+pub use Rattle.rm_record.specs.Records.{spelling}
 pub use Rattle.rm_history.specs.Acts.{Act, Change, Entry, Finish, History, Listing, Undo, changes, commits, ends, enters, lists, lsn_of, marks, newest_lsn}
 pub use Rattle.rm_history.specs.Acts.{undoes}
 pub use Rattle.rm_history.specs.Contents.{entry_of, page_of}

@@ -3,13 +3,14 @@ use Rattle.rm_core.specs.Below.{◌≡◌, ℕ, zero, suc, option_map, Option, S
 use Rattle.rm_core.specs.Below.{category_bytes, Rid, MAX_SLOT, Slot, Vacant, Row, CAPACITY, slot_at, category_of, Change, History, page_of, entry_of}
 use Rattle.rm_core.specs.Below.{pending_of, last_of, AreFalling, category_after, Op, Actor, Session, Flush}
 use Rattle.rm_core.specs.Names.{after, Kept, Blocks, IsInside, Asks, Wants, IsBlockedBy, SlotFits, IsSeated, May, Setting, log_full, Bars, IsBarredBy, Lacks}
-use Rattle.rm_core.specs.Names.{Move, turns, answered, Moves, HasRoomFor, IsRun, IsPassed, MayTry, Scans, part_end, IsNext, Aim, undoes_all, returns, target_of}
-use Rattle.rm_core.specs.Names.{Stage, idle, seeks, wants, tries, reads, fetches, alters, sets, settles, forces, finishes, rolls, prepares, compensates, Seat}
-use Rattle.rm_core.specs.Names.{State, seat_at, Turn, begin, scan, scan_last, latch, insert, alter}
+use Rattle.rm_core.specs.Names.{Move, turns, answered, Moves, HasRoomFor, IsRun, IsPassed, MayTry, Scans, part_end, IsNext, Aim, target_of, Stage, idle, seeks}
+use Rattle.rm_core.specs.Names.{wants, tries, reads, fetches, alters, sets, settles, forces, finishes, rolls, prepares, compensates, Seat, State, seat_at, Turn}
+use Rattle.rm_core.specs.Names.{begin, scan, scan_last, latch, insert, alter}
 use Rattle.rm_play.specs.{TakesAt, MayTake, IsMoveFor, Progress, wanted, ByActor, offset_after, move_at, after_move, IsActor, TurnsAreMade, slot_for, found_at}
 use Rattle.rm_play.specs.{scanning, latching, latching_at, lock_of, locking_against, locking, altering_to, reaching, rolling, preparing, compensating, outside}
 use Rattle.rm_play.specs.{asking, chosen_at, chosen, state_after, ChosenIsMove, MovesExist}
-use Rattle.rm_core.proofs.Names.{nat_tests, inl, inr, leb, cond, refl, sym, ap, subst, ◌∙◌, arith, Decides-and, Decides-eqb, Decides-ltb, pending_falls, legal_is_in_order}
+use Rattle.rm_core.proofs.Names.{nat_tests, inl, inr, leb, cond, refl, sym, ap, subst, ◌∙◌, arith, Decides-and, Decides-eqb, Decides-ltb, pending_falls}
+use Rattle.rm_core.proofs.Names.{legal_is_in_order}
 use Rattle.rm_core.proofs.Runs.{run_kept}
 use Rattle.rm_core.proofs.Sizes.{next_within, next_after}
 use Rattle.rm_core.proofs.Turns.{heads_at}

@@ -1,13 +1,9 @@
 -- The operation that a session is at, and that each of its turns goes on with it or finishes it.
-use Rattle.rm_core.specs.Below.{◌≡◌, ℕ, Bool, true, false, List, Option, Some, None, Format, Rid, Slot, Op}
-use Rattle.rm_core.specs.Names.{effect, latched, scanned, outcome_of, Asks, May, IsSkipped, Wants, Outcome, altering, asked, Scans, Aim, undoes_all, returns}
-use Rattle.rm_core.specs.Names.{Stage, idle, seeks, wants, tries, reads, fetches, alters, sets, settles, forces, finishes, rolls, prepares, compensates, Seat}
-use Rattle.rm_core.specs.Names.{State, Turn, skip, unname, refuse, begin, scan, scan_last, latch, try, try_last, insert, lock, lock_alone, wait, die, fetch}
-use Rattle.rm_core.specs.Names.{miss, lack, alter, settled, settle, commit, force, finish, abort, prepared, prepare, compensate, save, no_target, target, back}
-use Rattle.rm_core.specs.Names.{end}
-use Rattle.rm_play.specs.{Takes, TakesAt}
-use Rattle.rm_core.proofs.Names.{nat_tests, arith, refl, sym, ap, subst, ◌∙◌}
-use Rattle.rm_types.specs.declared.slots.Slot.TheVariants as slot
+use Rattle.rm_core.specs.Below.{◌≡◌, ℕ, Option, Some, None, Format, Op}
+use Rattle.rm_core.specs.Names.{effect, outcome_of, May, Outcome, altering, asked, Aim, undoes_all, returns, Stage, idle, seeks, wants, tries, reads, fetches}
+use Rattle.rm_core.specs.Names.{alters, sets, settles, forces, finishes, rolls, prepares, compensates, Seat, State, Turn}
+use Rattle.rm_play.specs.{TakesAt}
+use Rattle.rm_core.proofs.Names.{nat_tests, arith}
 use Rattle.rm_events.specs.declared.operations.Op.TheVariants as ops
 
 abbrev pub DoingAim : Aim → Op → Type 0

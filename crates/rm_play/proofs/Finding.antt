@@ -1,12 +1,12 @@
 -- What the searches of a session's move find.
-use Rattle.rm_core.specs.Below.{◌≡◌, ◌⊎◌, ℕ, zero, suc, ◌+◌, ◌<◌, ◌≤◌, max, Bool, true, false, IsTrue, Option, Some, None, is_some, List, [], ◌∷◌, length}
-use Rattle.rm_core.specs.Below.{Decides, unwrap_or, Rid, Slot, Vacant, Row, is_same_place, slot_at, page_of, IsSlotForRow}
-use Rattle.rm_core.specs.Names.{HasGrant, Blocks, Latches, Looks, IsReading, Bars, IsHeld, Savepoint, HasNumber, Stage, tries, fetches, sets, settles, prepares}
-use Rattle.rm_core.specs.Names.{compensates, reads, Seat, Grant, State, seat_at, empty_seat}
+use Rattle.rm_core.specs.Below.{◌≡◌, ◌⊎◌, ℕ, zero, suc, ◌+◌, ◌<◌, ◌≤◌, max, Bool, true, false, Option, Some, None, is_some, List, [], ◌∷◌, length, Decides}
+use Rattle.rm_core.specs.Below.{unwrap_or, Rid, Slot, Vacant, Row, is_same_place, slot_at, page_of, IsSlotForRow}
+use Rattle.rm_core.specs.Names.{HasGrant, Blocks, Latches, Looks, IsReading, Bars, IsHeld, Savepoint, HasNumber, Stage, fetches, reads, Seat, Grant, State}
+use Rattle.rm_core.specs.Names.{seat_at, empty_seat}
 use Rattle.rm_play.specs.{first_from, blocks_it, blocker, is_vacant, is_free, past_locks, slot_for, latches_it, looks_at, is_reading, bars_it, first_barring}
 use Rattle.rm_play.specs.{has_number}
-use Rattle.rm_core.proofs.Names.{nat_tests, inl, inr, cond, leb, refl, ap, subst, arith, cases_eq, cases_lt, cond_both, leb-true, le-leb, not_from_Decides, Decides-like}
-use Rattle.rm_core.proofs.Names.{Decides-not, Decides-and, Decides-or, Decides-eqb, get_or_past, same_place, is_same_place-refl}
+use Rattle.rm_core.proofs.Names.{nat_tests, inl, inr, cond, leb, refl, ap, subst, arith, cases_eq, cases_lt, cond_both, leb-true, le-leb, not_from_Decides}
+use Rattle.rm_core.proofs.Names.{Decides-like, Decides-not, Decides-and, Decides-or, Decides-eqb, get_or_past, same_place, is_same_place-refl}
 use Rattle.rm_core.proofs.Grants.{alone_has}
 
 -- what holds of both branches of a test

@@ -1,12 +1,12 @@
 -- The run of a script is a run of the machine, and its trace follows the lines.
 use Rattle.rm_core.specs.Below.{◌≡◌, ◌⊎◌, ℕ, zero, suc, ◌<◌, Bool, true, false, List, [], ◌∷◌, length, replicate, slice_index_or, Option, Some, None, Rid}
 use Rattle.rm_core.specs.Below.{Actor, Session, Flush, Line, Op, op_of, names_after}
-use Rattle.rm_core.specs.Names.{effect, after, staged, outcome_of, Kept, Answer, again, log_full, spent, closed, Move, turns, answered, rests, Moves}
-use Rattle.rm_core.specs.Names.{onto, Outcome, reply_of, Opening, IsOpening, IsRun, Stage, idle, Seat, State, seat_at}
-use Rattle.rm_play.specs.{IsMoveFor, finished_of, Follows, FollowsLines, IsAborted, IsRunOf, ScriptsRun, Progress, lines_at, names_at, no_names, begun, op_at}
-use Rattle.rm_play.specs.{wanted, finished_by, left_with, left_after, names_with, advanced, kept_up, ByActor, IsStop, GoesOn, ByActors}
-use Rattle.rm_core.proofs.Names.{nat_tests, inl, inr, cond, eqb, set, refl, sym, ap, subst, ◌∙◌, arith, cases_eq, get_or-set_other, length-set, length-replicate, if_equal}
-use Rattle.rm_core.proofs.Names.{if_different}
+use Rattle.rm_core.specs.Names.{effect, after, staged, outcome_of, Kept, Answer, again, log_full, spent, closed, Move, turns, answered, rests, Moves, onto}
+use Rattle.rm_core.specs.Names.{Outcome, reply_of, Opening, IsOpening, IsRun, Stage, idle, Seat, State, seat_at}
+use Rattle.rm_play.specs.{IsMoveFor, finished_of, Follows, IsAborted, IsRunOf, ScriptsRun, Progress, lines_at, names_at, no_names, begun, op_at, wanted}
+use Rattle.rm_play.specs.{finished_by, left_with, left_after, names_with, advanced, kept_up, ByActor, IsStop, GoesOn, ByActors}
+use Rattle.rm_core.proofs.Names.{nat_tests, inl, inr, cond, eqb, set, refl, sym, ap, subst, ◌∙◌, arith, cases_eq, get_or-set_other, length-set}
+use Rattle.rm_core.proofs.Names.{length-replicate, if_equal, if_different}
 use Rattle.rm_core.proofs.Moves.{Moved, moved-set}
 use Rattle.rm_core.proofs.Runs.{moves_run, run_kept, seat_empty}
 use Rattle.rm_play.proofs.Doing.{Doing, goes_on}
@@ -144,12 +144,22 @@ advanced_good closes scripts p k move state seat good goes own =
       each = λ j. elim (cases_eq k j) [
         | inl same ↦
             subst (λ (n : ℕ). Stands closes (slice_index_or scripts n []) (finished_of new.machine.trace n) (lines_at new n) (names_at new n) (seat_at state.seats n)) same
-            (rw (goes.seats.here, put_at p.lines k left (left_put move p.lines k (lines_at p k) refl),
-            put_at p.names k names (names_put (finished_by move) p.names p.lines k (lines_at p k) good.sized refl), goes.done k, if_equal k k _ _ refl) own)
+            (rw (
+              goes.seats.here,
+              put_at p.lines k left (left_put move p.lines k (lines_at p k) refl),
+              put_at p.names k names (names_put (finished_by move) p.names p.lines k (lines_at p k) good.sized refl),
+              goes.done k,
+              if_equal k k _ _ refl,
+            ) own)
         | inr differs ↦
             let other : j ≡ k → ⊥ = λ same. differs (sym same) in
-            rw (goes.seats.other j other, get_or-set_other p.lines k j left [] other, get_or-set_other p.names k j names [] other,
-            goes.done j, if_different k j _ _ differs) (good.each j)
+            rw (
+              goes.seats.other j other,
+              get_or-set_other p.lines k j left [] other,
+              get_or-set_other p.names k j names [] other,
+              goes.done j,
+              if_different k j _ _ differs,
+            ) (good.each j)
       ];
     }
 

@@ -1,15 +1,10 @@
 -- Each turn brings its operation nearer to its end.
-use Rattle.rm_core.specs.Below.{◌≡◌, ℕ, ◌+◌, ◌*◌, ◌<◌, ◌≤◌, Bool, true, false, List, [], ◌∷◌, length, Format, Rid, Vacant, Row, Change, undoes, pending_of}
-use Rattle.rm_core.specs.Below.{undo_for, Op}
-use Rattle.rm_core.specs.Names.{effect, logging, latched, staged, Kept, Asks, Wants, IsSeated, May, Step, again, log_full, spent, Setting, closed, Move, turns}
-use Rattle.rm_core.specs.Names.{answered, appends, append_refused, rests, Moves, Opening, Machine, IsRun, moved, Scans, undoes_all, returns, target_of, Stage}
-use Rattle.rm_core.specs.Names.{idle, seeks, wants, tries, reads, fetches, alters, sets, settles, forces, finishes, rolls, prepares, compensates, Seat, State}
-use Rattle.rm_core.specs.Names.{seat_at, Turn, skip, unname, refuse, begin, scan, scan_last, latch, try, try_last, insert, lock, lock_alone, wait, die, fetch}
-use Rattle.rm_core.specs.Names.{miss, lack, alter, settled, settle, commit, force, finish, abort, prepared, prepare, compensate, end, save, no_target, target}
-use Rattle.rm_core.specs.Names.{back}
-use Rattle.rm_play.specs.{Takes, TakesAt, above, search_turns, left_at, turns_left, most_turns, TurnsComeNearer, Adds, Makes, OperationsEnd}
+use Rattle.rm_core.specs.Below.{◌≡◌, ℕ, ◌+◌, ◌*◌, ◌<◌, ◌≤◌, Bool, List, [], ◌∷◌, length, Format, Rid, Change, undoes, pending_of, undo_for, Op}
+use Rattle.rm_core.specs.Names.{effect, logging, staged, Kept, Asks, Wants, IsSeated, May, Step, again, log_full, spent, Setting, closed, Move, turns, answered}
+use Rattle.rm_core.specs.Names.{appends, append_refused, rests, Moves, Opening, Machine, IsRun, moved, Scans, target_of, Stage, idle, prepares, compensates}
+use Rattle.rm_core.specs.Names.{Seat, State, seat_at, Turn, scan, scan_last, latch, die, prepared, prepare, compensate}
+use Rattle.rm_play.specs.{Takes, TakesAt, above, left_at, turns_left, most_turns, TurnsComeNearer, Adds, Makes, OperationsEnd}
 use Rattle.rm_core.proofs.Names.{nat_tests, inl, inr, refl, sym, ap, subst, ◌∙◌, arith, ltb, cases_eq, cond_both, lt-ltb, last_is_of, pending_of-undo}
-use Rattle.rm_core.proofs.Names.{pending-change_other, pending-undo_other, pending-commit_other, pending-end_other}
 use Rattle.rm_core.proofs.Moves.{moved-set}
 use Rattle.rm_core.proofs.Runs.{moves_run, run_kept}
 use Rattle.rm_core.proofs.Stages.{apart_or_idle}
