@@ -223,5 +223,4 @@ actor_moves closes p offset Flush _ _ next = let log = p.machine.state.history i
 actor_moves closes p offset other run is next = absurd is
 
 pub turns_are_made : TurnsAreMade
-turns_are_made closes p due run is =
-    actor_moves closes p (offset_after p.machine.state.history due.more) due.actor run is (offset_is_next p.machine.state.history due.more)
+turns_are_made closes p due run is = grind (arith, nat_tests, actor_moves, offset_is_next)

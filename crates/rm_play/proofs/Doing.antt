@@ -33,15 +33,7 @@ GoesOn None seat op = Doing seat.stage op
 GoesOn (Some outcome) seat op = (asked outcome ≡ op) × (seat.stage ≡ idle) × (op ≡ ops.Abort → seat.txn ≡ 0)
 
 module _ (format : Format) (pages : ℕ) (s : State) (k : ℕ) (seat : Seat) (op : Op) (bare : seat.txn ≡ 0 → seat.stage ≡ idle) where
-  -- what is known of the operation of a session at this seat
-  record At (turn : Turn) : Type 0 where
-    takes : TakesAt seat.stage turn op
-    doing : Doing seat.stage op
-
   -- each turn of a session that is at an operation
-  going : (turn : Turn) → May format pages s k seat turn → At turn → GoesOn (outcome_of turn) (effect format s seat turn).seat op
-  going turn may is = grind (arith, nat_tests)
-
   pub goes_on : (turn : Turn) → May format pages s k seat turn → TakesAt seat.stage turn op → Doing seat.stage op
       → GoesOn (outcome_of turn) (effect format s seat turn).seat op
-  goes_on turn may takes doing = going turn may (record { takes = takes; doing = doing })
+  goes_on turn may takes doing = grind (arith, nat_tests)

@@ -120,11 +120,7 @@ blocker_is_least grants txn rid alone = least_below _ (Keeps grants txn rid alon
 
 decides_held : (grants : List Grant) (txn page number : ℕ)
     → Decides (is_some (blocker grants txn (record { page = page; slot = number }) true)) (IsHeld grants txn page number)
-decides_held grants txn page number =
-    let rid : Rid = record { page = page; slot = number } in
-    with_least (Keeps grants txn rid true) (λ found. Decides (is_some found) (IsHeld grants txn page number)) _ (blocker_is_least grants txn rid true)
-    (λ none. (λ is. absurd cc, λ held. absurd (none held.0 (held.1, held.2))))
-    (λ other keeps least. (λ is. (other, keeps.0, keeps.1), λ held. refl))
+decides_held grants txn page number = grind (arith, nat_tests, with_least, blocker_is_least)
 
 pub slot_is_for_row : (s : State) (seat : Seat) (page : ℕ) → IsSlotForRow (IsHeld s.grants seat.txn page) (page_of s.history page) (slot_for s seat page)
 slot_is_for_row s seat page =

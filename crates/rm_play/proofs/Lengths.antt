@@ -47,23 +47,11 @@ module _ (format : Format) (pages : ℕ) (s : State) (k : ℕ) (op : Op) (kept :
   inside : (stage : Stage) → seat.stage ≡ stage → Within pages stage
   inside stage at = subst (Within pages) at within
 
-  near_scan : (stage : Stage) (row : List ℕ) (from to : ℕ) (found : Bool) → seat.stage ≡ stage → Scans stage row from → May format pages s k seat (scan row from to found) → Nears (scan row from to found)
-  near_scan stage row from to found at scans may = grind (arith, nat_tests)
-
-  near_scan_last : (stage : Stage) (row : List ℕ) (from : ℕ) → seat.stage ≡ stage → Scans stage row from → Nears (scan_last row from)
-  near_scan_last stage row from at scans = grind (arith, nat_tests)
-
-  near_latch : (stage : Stage) (page : ℕ) → seat.stage ≡ stage → Wants s seat stage page → Nears (latch page)
-  near_latch stage page at is = grind (arith, nat_tests)
-
   -- a lock that is refused may end the transaction
   most_died : (o : Op) (rid : Rid) (alone : Bool) → Asks o rid alone → 3 * length pending + 2 ≤ most_turns pages pending o
   most_died o rid alone asks = grind (arith, nat_tests)
 
   near : (turn : Turn) → IsSeated seat turn → May format pages s k seat turn → Nears turn
-  near (scan row from to found) seated may = near_scan seat.stage row from to found refl may.at may
-  near (scan_last row from) seated may = near_scan_last seat.stage row from refl may.at
-  near (latch page) seated may = near_latch seat.stage page refl may.wants_it
   near (die o rid alone holder) seated may = first (die o rid alone holder) may.0.at
       (λ takes. subst (λ (other : Op). 3 * above 0 pending + 1 + 1 ≤ most_turns pages pending other) takes (omega (arith, above_within 0 pending, most_died o rid alone may.2)))
   near (prepared aim last) seated may =

@@ -160,25 +160,19 @@ module _ (m : Setting) (s : State) (k : ℕ) (op : Op) (bare : (seat_at s.seats 
       (locked o rid alone (Some holder) may.2 may.3 (blocked may.0) (yes_it _ (Decides-ltb seat.txn holder) may.1))
   only (die o rid alone holder) takes some may room = asked_is some may.0.at (λ at. sym (takes at))
       (locked o rid alone (Some holder) may.2 may.3 (blocked may.0) (no_it _ (Decides-ltb seat.txn holder) (λ less. omega (arith, may.1))))
-  only (fetch rid slot) takes some may room = at_stage may.0 (ap (λ (held : Slot). turns k (fetch rid held)) may.1)
   only (miss rid slot) takes some may room = at_stage may.0 (ap (λ (held : Slot). altering_to m s k 0 rid held slot) (sym may.1))
   only (lack rid row room_left) takes some may room = at_stage may.0 (ap (λ (n : ℕ). turns k (lack rid row n)) may.3 ∙ lack_is rid _ row may.1 may.2)
   only (alter rid slot lsn) takes some may room = at_stage may.at (alter_is rid _ slot may.fits room)
   only (settled outcome page) takes some may room = at_stage may.0 (ap (turns k) (yes_it _ (Decides-eqb _ _) may.1))
   only (settle outcome page lsn) takes some may room = at_stage may.at (ap (turns k) (no_it _ (Decides-eqb _ _) may.wrong))
-  only (commit lsn) takes some may room = asked_is some may.0 takes refl
-  only (force durable) takes some may room = at_stage may.0 refl
-  only finish takes some may room = at_stage may refl
-  only abort takes some may room = asked_is some may takes refl
   only (prepared aim last) takes some may room = at_stage may.0 (ap (turns k) (yes_it _ (Decides-eqb _ _) may.2 ∙ ap (preparing m s 0 aim) (sym may.1.1)))
   only (prepare aim last lsn) takes some may room =
       at_stage may.at (ap (turns k) (no_it _ (Decides-eqb _ _) may.wrong ∙ ap (preparing m s 0 aim) (sym may.next.1)))
   only (compensate aim last lsn) takes some may room = at_stage may.0 (ap (λ (pending : List Change). turns k (compensating 0 aim pending)) (sym may.1.1))
-  only (end outcome lsn) takes some may room = at_stage may.0 (ap (rolling s k 0 (undoes_all outcome)) (sym may.1))
-  only (save number) takes some may room = asked_is some may takes refl
   only (no_target number) takes some may room = asked_is some may.0 takes (no_it _ (decides_number seat.saves number) may.1)
   only (target number lsn) takes some may room = asked_is some may.0 takes (ap (target number) may.2 ∙ yes_it _ (decides_number seat.saves number) may.1)
   only (back number lsn) takes some may room = at_stage may.0 (back_is number lsn (pending_of s.history seat.txn) may.1)
+  only turn takes some may room = grind (arith, nat_tests, asked_is, at_stage)
 
   spent_is : (last : ℕ) → seat.stage ≡ idle → op ≡ ops.Begin → IsSpent s k → last + 1 ≡ s.next → Is (answered k (spent last))
   spent_is last at same is before = grind (arith, nat_tests)
