@@ -37,38 +37,25 @@ module _ (format : Format) (pages : ℕ) (s : State) (k : ℕ) (op : Op) (kept :
   abbrev Nears : Turn → Type 0
   Nears turn = ((seat.stage ≡ idle → ⊥) → left_by turn < turns_left pages s.history seat) × (seat.stage ≡ idle → Takes turn op → left_by turn + 1 ≤ most_turns pages pending op)
 
-  -- from idle, and from another stage
-  first : (turn : Turn) → seat.stage ≡ idle → (Takes turn op → left_by turn + 1 ≤ most_turns pages pending op) → Nears turn
-  first turn at less = (λ busy. absurd (busy at), λ also. less)
-
-  next : (stage : Stage) (turn : Turn) → seat.stage ≡ stage → (stage ≡ idle → ⊥) → left_by turn < left_at pages pending stage → Nears turn
-  next stage turn at busy less = (λ not. subst (λ (st : Stage). left_by turn < left_at pages pending st) (sym at) less, λ also. absurd (busy (sym at ∙ also)))
-
-  inside : (stage : Stage) → seat.stage ≡ stage → Within pages stage
-  inside stage at = subst (Within pages) at within
-
   -- a lock that is refused may end the transaction
   most_died : (o : Op) (rid : Rid) (alone : Bool) → Asks o rid alone → 3 * length pending + 2 ≤ most_turns pages pending o
   most_died o rid alone asks = grind (arith, nat_tests)
 
   near : (turn : Turn) → IsSeated seat turn → May format pages s k seat turn → Nears turn
-  near (die o rid alone holder) seated may = first (die o rid alone holder) may.0.at
-      (λ takes. subst (λ (other : Op). 3 * above 0 pending + 1 + 1 ≤ most_turns pages pending other) takes (omega (arith, above_within 0 pending, most_died o rid alone may.2)))
   near (prepared aim last) seated may =
       let head = heads_at format s k (prepares aim last.rid.page) (record { kept = kept; among = among; some = seated }) may.0 last.rid.page refl in
-      next (prepares aim last.rid.page) (prepared aim last) may.0 (λ no. cc) (omega (arith, above_last (target_of aim) pending head.0 head.1 head.2 head.4))
+      let more = above_last (target_of aim) pending head.0 head.1 head.2 head.4 in grind (arith, nat_tests)
   near (prepare aim last lsn) seated may =
       let head = heads_at format s k (prepares aim last.rid.page) (record { kept = kept; among = among; some = seated }) may.at last.rid.page refl in
-      next (prepares aim last.rid.page) (prepare aim last lsn) may.at (λ no. cc) (omega (arith, above_last (target_of aim) pending head.0 head.1 head.2 head.4))
+      let more = above_last (target_of aim) pending head.0 head.1 head.2 head.4 in grind (arith, nat_tests)
   near (compensate aim last lsn) seated may =
       let rest : List Change = may.1.0 in
       let mine : last.txn ≡ seat.txn = last_is_of s.history seat.txn last rest may.1.1 in
       let undone : pending_of (undoes (undo_for lsn last) ∷ s.history) seat.txn ≡ rest =
       subst (λ (t : ℕ). pending_of (undoes (undo_for lsn last) ∷ s.history) t ≡ rest) mine
       (pending_of-undo s.history (undo_for lsn last) last rest (subst (λ (t : ℕ). pending_of s.history t ≡ last ∷ rest) (sym mine) may.1.1)) in
-      next (compensates aim last.rid.page) (compensate aim last lsn) may.0 (λ no. cc)
-      (omega (arith, above_last (target_of aim) pending last rest may.1.1 may.3, ap (above (target_of aim)) undone))
-  near turn seated may = grind (arith, nat_tests, most_some, above_within)
+      let more = above_last (target_of aim) pending last rest may.1.1 may.3 in grind (arith, nat_tests)
+  near turn seated may = grind (arith, nat_tests, most_some, above_within, most_died)
 
 step_nears : (format : Format) (pages : ℕ) (old new : State) (k : ℕ) (op : Op) (turn : Turn) → Kept format old → Within pages (seat_at old.seats k).stage → Step format pages old k turn new
     → (((seat_at old.seats k).stage ≡ idle → ⊥) → turns_left pages new.history (seat_at new.seats k) < turns_left pages old.history (seat_at old.seats k))
