@@ -100,9 +100,6 @@ module _ (format : Format) (limit : ℕ) (s : State) (k : ℕ) (known : Known fo
 
   turn_keeps : (pages : ℕ) (turn : Turn) → IsSeated seat turn → May format pages s k seat turn → HasRoomFor limit s turn (after format s k seat turn)
       → Known format limit (after format s k seat turn)
-  turn_keeps pages (skip op) some may asks = still
-  turn_keeps pages unname some may asks = still
-  turn_keeps pages (refuse op rid) some may asks = still
   turn_keeps pages (begin txn) some may asks = record {
     kept = begin_keeps format s k known.kept among may.0;
     room = omega (arith, asks.2, next_after s.history asks.0 asks.1, all_owed (after format s k seat (begin txn)));
@@ -121,7 +118,6 @@ module _ (format : Format) (limit : ℕ) (s : State) (k : ℕ) (known : Known fo
       record { kept = lock_keeps format s k (has some) rid may.at may.free; room = room_left seat.saves (reads rid) idle some may.at (omega arith) }
   turn_keeps pages (lock_alone rid slot) some may asks =
       record { kept = lock_alone_keeps format s k (has some) rid slot may.at may.free; room = room_left seat.saves (alters rid slot) idle some may.at (omega arith) }
-  turn_keeps pages (wait op rid alone holder) some may asks = still
   turn_keeps pages (die op rid alone holder) some may asks = goes_on seat.saves (rolls (undoes_all (died op holder))) idle some may.0.at tt tt tt
   turn_keeps pages (fetch rid slot) some may asks = closes (fetches rid) some may.0 tt
   turn_keeps pages (miss rid slot) some may asks = closes (sets rid slot) some may.0 tt
@@ -179,6 +175,7 @@ module _ (format : Format) (limit : ℕ) (s : State) (k : ℕ) (known : Known fo
   turn_keeps pages (no_target number) some may asks = closes idle some may.0 tt
   turn_keeps pages (target number lsn) some may asks = goes_on (upto seat.saves number) (rolls (returns number lsn)) idle some may.0 tt tt tt
   turn_keeps pages (back number lsn) some may asks = closes (rolls (returns number lsn)) some may.0 tt
+  turn_keeps pages turn some may asks = grind (arith, nat_tests, still)
 
 pub turn_known : (format : Format) (pages limit : ℕ) (old new : State) (k : ℕ) (turn : Turn) → Known format limit old → Step format pages old k turn new
     → HasRoomFor limit old turn new → Known format limit new

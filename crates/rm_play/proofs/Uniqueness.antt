@@ -160,12 +160,7 @@ module _ (m : Setting) (s : State) (k : ℕ) (op : Op) (bare : (seat_at s.seats 
       (locked o rid alone (Some holder) may.2 may.3 (blocked may.0) (yes_it _ (Decides-ltb seat.txn holder) may.1))
   only (die o rid alone holder) takes some may room = asked_is some may.0.at (λ at. sym (takes at))
       (locked o rid alone (Some holder) may.2 may.3 (blocked may.0) (no_it _ (Decides-ltb seat.txn holder) (λ less. omega (arith, may.1))))
-  only (prepared aim last) takes some may room = at_stage may.0 (ap (turns k) (yes_it _ (Decides-eqb _ _) may.2 ∙ ap (preparing m s 0 aim) (sym may.1.1)))
-  only (prepare aim last lsn) takes some may room =
-      at_stage may.at (ap (turns k) (no_it _ (Decides-eqb _ _) may.wrong ∙ ap (preparing m s 0 aim) (sym may.next.1)))
-  only (no_target number) takes some may room = asked_is some may.0 takes (no_it _ (decides_number seat.saves number) may.1)
-  only (target number lsn) takes some may room = asked_is some may.0 takes (ap (target number) may.2 ∙ yes_it _ (decides_number seat.saves number) may.1)
-  only turn takes some may room = grind (arith, nat_tests, asked_is, at_stage, lack_is, alter_is, back_is)
+  only turn takes some may room = grind (arith, nat_tests, asked_is, at_stage, lack_is, alter_is, back_is, decides_number)
 
   spent_is : (last : ℕ) → seat.stage ≡ idle → op ≡ ops.Begin → IsSpent s k → last + 1 ≡ s.next → Is (answered k (spent last))
   spent_is last at same is before = grind (arith, nat_tests)
