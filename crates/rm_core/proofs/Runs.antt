@@ -1,5 +1,6 @@
 -- What holds at an opening, and is kept by each move or with each event, holds of each run.
-use Rattle.rm_core.specs.Below.{◌≡◌, ℕ, zero, suc, List, [], ◌∷◌, length, replicate, Format, sum_below, Listing, History, ◌<◌, None, IsInOrder, Actor}
+use Rattle.std.specs.Prelude.{◌≡◌, ℕ, zero, suc, List, [], ◌∷◌, length, replicate, ◌<◌, None}
+use Rattle.rm_core.specs.Below.{Format, sum_below, Listing, History, IsInOrder, Actor}
 use Rattle.rm_core.specs.Below.{Checkpoint, Seen}
 use Rattle.rm_core.specs.Names.{Event, Locked, Seated, Kept, MovesRun, RunsAreKept, Latches, Setting, again, log_full, spent, MayAppend, appended, Move, turns}
 use Rattle.rm_core.specs.Names.{answered, appends, append_refused, rests, Moves, claim_of, Opening, IsOpening, opened, Machine, Runs, IsRun, started, moved}

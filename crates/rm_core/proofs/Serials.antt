@@ -1,5 +1,6 @@
 -- Every run is serial: the committed transactions one after the other, in the order of their commits, and each unfinished one after them.
-use Rattle.rm_core.specs.Below.{IsFinished, ◌≡◌, ◌⊎◌, ℕ, zero, suc, ◌+◌, ◌-◌, List, [], ◌∷◌, ◌++◌, length, map, drop, Option, Some, None, Format, Rid, Rows}
+use Rattle.std.specs.Prelude.{◌≡◌, ◌⊎◌, ℕ, zero, suc, ◌+◌, ◌-◌, List, [], ◌∷◌, ◌++◌, length, map, drop, Option, Some, None}
+use Rattle.rm_core.specs.Below.{IsFinished, Format, Rid, Rows}
 use Rattle.rm_core.specs.Below.{Act, Finish, History, commits, lists, marks, pending_of, applied, rows_of_log, Checkpoint, Actor, Seen}
 use Rattle.rm_core.specs.Names.{logging, effect, after, Event, event_of, RunsAreSerial, May, IsSeated, single_after, Allowed, rows_through, AllAllowed, onto}
 use Rattle.rm_core.specs.Names.{ops_of, ordered_with, order_of, IsAmong, commits_in, Outcome, committed, Opening, Machine, IsRun, idle, Seat, State, seat_at}

@@ -1,5 +1,6 @@
 -- How many bytes records have, and what the LSN of the next one is above.
-use Rattle.rm_core.specs.Below.{◌≡◌, ℕ, ◌+◌, ◌<◌, ◌≤◌, length, Rid, Slot, Vacant, Row, row_length, spelling, Act, Undo, Entry, Finish, History, changes, undoes}
+use Rattle.std.specs.Prelude.{◌≡◌, ℕ, ◌+◌, ◌<◌, ◌≤◌, length}
+use Rattle.rm_core.specs.Below.{Rid, Slot, Vacant, Row, row_length, spelling, Act, Undo, Entry, Finish, History, changes, undoes}
 use Rattle.rm_core.specs.Below.{enters, commits, ends, lists, newest_lsn, marks}
 use Rattle.rm_record.proofs.SizeLaws.{length-checkpoint}
 use Rattle.rm_core.specs.Names.{change_record, size_of, end_of, IsNext}

@@ -1,5 +1,6 @@
 -- What a session's stage says of its turns, of the trace and of the log, along a run.
-use Rattle.rm_core.specs.Below.{◌≡◌, ◌⊎◌, ℕ, suc, ◌+◌, ◌<◌, ◌≤◌, Bool, List, [], ◌∷◌, length, Option, Some, None, Format, Row, Vacant, slot_at, Act, Change}
+use Rattle.std.specs.Prelude.{◌≡◌, ◌⊎◌, ℕ, suc, ◌+◌, ◌<◌, ◌≤◌, Bool, List, [], ◌∷◌, length, Option, Some, None}
+use Rattle.rm_core.specs.Below.{Format, Row, Vacant, slot_at, Act, Change}
 use Rattle.rm_core.specs.Below.{History, commits, lists, marks, lsn_of, newest_lsn, page_of, pending_of, IsLast, IsInOrder, Actor, Session, Seen}
 use Rattle.rm_core.specs.Names.{IsLogged, IsDurable, Effect, change_of, setting, effect, logging, latched, staged, after, Event, tried_of, seen_of, outcome_of}
 use Rattle.rm_core.specs.Names.{txn_of, event_of, Kept, Writes, lsn_in, TellsChange, Wants, May, MayRest, ordered_with, order_of, IsAmong, Outcome, no_space}

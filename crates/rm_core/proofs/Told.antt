@@ -1,5 +1,6 @@
 -- What the trace of a run tells: its log, what is acknowledged, the end of a search, and what a read is told.
-use Rattle.rm_core.specs.Below.{ℕ, List, ◌∷◌, Format, Slot, Row, Vacant, Act, History, changes, lists, marks, Seen, ◌≡◌, [], Option, Some, None, suc, Session}
+use Rattle.std.specs.Prelude.{ℕ, List, ◌∷◌, ◌≡◌, [], Option, Some, None, suc}
+use Rattle.rm_core.specs.Below.{Format, Slot, Row, Vacant, Act, History, changes, lists, marks, Seen, Session}
 use Rattle.rm_core.specs.Names.{change_of, after, Event, TracesTellLogs, TellsLog, May, seens_of, Seat, State, Turn, insert, alter, settled, settle, commit}
 use Rattle.rm_core.specs.Names.{prepare, compensate, end, IsForcedFor, IsDurable, effect, logging, event_of, AcknowledgedIsDurable, order_of, IsAmong}
 use Rattle.rm_core.specs.Names.{IsAcknowledged, committed, Machine, IsRun, no_space, EndsSearch, NoSpaceIsExact, ReadsAreExact}

@@ -1,6 +1,7 @@
 -- What each turn of a session keeps: those that log nothing, those with which it gets a transaction and lets it go, and those that log.
-use Rattle.rm_core.specs.Below.{◌≡◌, ◌⊎◌, ℕ, ◌+◌, ◌<◌, List, ◌∷◌, length, Option, None, Format, Rid, Act, Change, History, entry_of, pending_of, IsFinished}
-use Rattle.rm_core.specs.Below.{HasChange, IsLegal, category_after, true, false, Slot, [], Some, Finish, ends, Vacant, Row, slot_at, category_of, Undo, Entry}
+use Rattle.std.specs.Prelude.{◌≡◌, ◌⊎◌, ℕ, ◌+◌, ◌<◌, List, ◌∷◌, length, Option, None, true, false, [], Some}
+use Rattle.rm_core.specs.Below.{Format, Rid, Act, Change, History, entry_of, pending_of, IsFinished}
+use Rattle.rm_core.specs.Below.{HasChange, IsLegal, category_after, Slot, Finish, ends, Vacant, Row, slot_at, category_of, Undo, Entry}
 use Rattle.rm_core.specs.Below.{changes, undoes, enters, commits, newest_lsn, page_of, Fits, MayEnter, IsEntry, EntriesFollow, entry_for, undo_for}
 use Rattle.rm_history.proofs.Rollbacks.{HasEnded, has_ended}
 use Rattle.rm_history.specs.UndoLaws.{IsUndone}

@@ -1,5 +1,6 @@
 -- The records of a history, their bytes, and the LSN that comes next.
-use Rattle.rm_core.specs.Below.{◌≡◌, ℕ, ◌+◌, [], ◌∷◌, length, ◌⊎◌, Rid, Slot, Vacant, Row, spelling, BATCH_HEADER, Act, History, changes, undoes, enters}
+use Rattle.std.specs.Prelude.{◌≡◌, ℕ, ◌+◌, [], ◌∷◌, length, ◌⊎◌}
+use Rattle.rm_core.specs.Below.{Rid, Slot, Vacant, Row, spelling, BATCH_HEADER, Act, History, changes, undoes, enters}
 use Rattle.rm_core.specs.Below.{commits, ends, lists, lsn_of, marks}
 use Rattle.rm_record.specs.declared.records.LogRecord.{LogRecord}
 use Rattle.rm_record.specs.declared.records.LogRecord.TheVariants.{Insert, Delete, Update, Compensate, Inventory, Commit, End, Checkpoint}

@@ -1,5 +1,6 @@
 -- The operation that a session is at, and that each of its turns goes on with it or finishes it.
-use Rattle.rm_core.specs.Below.{◌≡◌, ℕ, Option, Some, None, Format, Op}
+use Rattle.std.specs.Prelude.{◌≡◌, ℕ, Option, Some, None}
+use Rattle.rm_core.specs.Below.{Format, Op}
 use Rattle.rm_core.specs.Names.{effect, outcome_of, May, Outcome, altering, asked, Aim, undoes_all, returns, Stage, idle, seeks, wants, tries, reads, fetches}
 use Rattle.rm_core.specs.Names.{alters, sets, settles, forces, finishes, rolls, prepares, compensates, Seat, State, Turn}
 use Rattle.rm_play.specs.{TakesAt}

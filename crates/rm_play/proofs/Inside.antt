@@ -1,5 +1,6 @@
 -- What holds of each run beside what is kept: an insert's page is one of the file, and the next id is at most 2 ^ 32.
-use Rattle.rm_core.specs.Below.{ℕ, length, ◌^◌, ◌<◌, ◌≤◌, Format}
+use Rattle.std.specs.Prelude.{ℕ, length, ◌^◌, ◌<◌, ◌≤◌}
+use Rattle.rm_core.specs.Below.{Format}
 use Rattle.rm_core.specs.Names.{Effect, effect, goes_to, staged, with_effect, May, Machine, IsRun, Stage, idle, wants, tries, Seat, State, seat_at, Turn}
 use Rattle.rm_core.proofs.Names.{nat_tests, sym, subst, arith}
 use Rattle.rm_core.proofs.Runs.{each_seat, kept_along, seat_of, setting_of, seat_empty}

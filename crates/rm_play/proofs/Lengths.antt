@@ -1,5 +1,6 @@
 -- Each turn brings its operation nearer to its end.
-use Rattle.rm_core.specs.Below.{◌≡◌, ℕ, ◌+◌, ◌*◌, ◌<◌, ◌≤◌, Bool, List, [], ◌∷◌, length, Format, Rid, Change, undoes, pending_of, undo_for, Op}
+use Rattle.std.specs.Prelude.{◌≡◌, ℕ, ◌+◌, ◌*◌, ◌<◌, ◌≤◌, Bool, List, [], ◌∷◌, length}
+use Rattle.rm_core.specs.Below.{Format, Rid, Change, undoes, pending_of, undo_for, Op}
 use Rattle.rm_core.specs.Names.{effect, logging, staged, Kept, Asks, Wants, IsSeated, May, Step, again, log_full, spent, Setting, closed, Move, turns, answered}
 use Rattle.rm_core.specs.Names.{appends, append_refused, rests, Moves, Opening, Machine, IsRun, moved, Scans, target_of, Stage, idle, prepares, compensates}
 use Rattle.rm_core.specs.Names.{Seat, State, seat_at, Turn, scan, scan_last, latch, die, prepared, prepare, compensate}

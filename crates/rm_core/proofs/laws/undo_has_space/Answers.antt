@@ -1,4 +1,5 @@
-use Rattle.rm_core.specs.Below.{◌+◌, newest_lsn}
+use Rattle.std.specs.Prelude.{◌+◌}
+use Rattle.rm_core.specs.Below.{newest_lsn}
 use Rattle.rm_core.proofs.Names.{arith, last_is_unfinished, undoes_are_in_order}
 use Rattle.rm_core.proofs.Runs.{run_in_order}
 use Rattle.rm_core.proofs.laws.undo_has_space.Goals as goal
