@@ -1,2 +1,3 @@
 pub mod JournalSteps
+pub mod JournalEnds
 pub mod JournalLookups
