@@ -1,3 +1,1 @@
-pub mod JournalSteps
-pub mod JournalEnds
-pub mod JournalLookups
+pub mod Journals

@@ -3,7 +3,7 @@
 ghost use Rattle.std.specs.Prelude.{◌≡◌, ℕ, ◌+◌, ◌<◌, ◌≤◌, true, false, [], ◌∷◌, ◌++◌, length, IsTrue, IfOk, IsOk, OnOk, OnErr, MatchResult, Err};
 ghost use Rattle.rm_types.specs.declared.areas.Area.{Area as Areas};
 ghost use Rattle.rm_types.specs.declared.numbers.TheConstants.{MAX_LOG};
-ghost use Rattle.rm_outside.specs.Calls.{AtEachMoment, FailsIn, IsSynced, OnlyReads, StoreFailsIn};
+ghost use Rattle.rm_outside.specs.Calls.{AtEachMoment, FailsIn, IsSynced, OnlyReads, ReadsNothing, StoreFailsIn};
 ghost use Rattle.rm_record.specs.Records.{spelling, IsRecord};
 ghost use Rattle.rm_history.specs.declared.TheConstants.{BATCH_HEADER, MAX_BATCH};
 ghost use Rattle.rm_history.specs.Acts.{act_at, acts_of};
@@ -165,6 +165,7 @@ impl<V: Volume> Journal<V> {
         ensures empty { self.old.log.tail ≡ [] → IsOk result × (self.new ≡ self.old) }
         ensures err { OnErr result (self.new ≡ record self.old { volume = self.new.volume; log = self.new.log; is_known = false }) }
         ensures images { AtEachMoment V.Volume self.old.volume self.new.volume (IsBetween self.old.durable self.old.history) }
+        ensures keeps { ReadsNothing V.Volume self.old.volume self.new.volume }
         ensures cause { FailsIn V.Volume Area.Log self.old.opened self.new.volume result }
     {
         match self.log.flush(&mut self.volume) {

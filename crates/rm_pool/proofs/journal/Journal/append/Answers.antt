@@ -1,5 +1,4 @@
-use Rattle.rm_pool.proofs.JournalEnds.{next_is_end}
-use Rattle.rm_pool.proofs.JournalSteps.{known_of, stands_appended}
+use Rattle.rm_pool.proofs.Journals.{next_is_end, known_of, stands_appended}
 use Rattle.rm_pool.proofs.journal.Journal.append.Goals as goal
 
 pub invariant_of-self-2 : goal.invariant_of-self-2

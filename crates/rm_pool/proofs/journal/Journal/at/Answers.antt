@@ -2,8 +2,7 @@ use Rattle.std.proofs.Common.{◌≤◌, ◌∙◌, arith, subst}
 use Rattle.rm_outside.specs.Moments.{started}
 use Rattle.rm_wal.specs.Tails.{end_of}
 use Rattle.rm_pool.specs.Journals.{JournalValue, HasNoRecordAt}
-use Rattle.rm_pool.proofs.JournalSteps.{between_now, known_of, read_between, stands_read}
-use Rattle.rm_pool.proofs.JournalLookups.{at_found, none_found, none_past}
+use Rattle.rm_pool.proofs.Journals.{between_now, known_of, read_between, stands_read, at_found, none_found, none_past}
 use Rattle.rm_pool.proofs.journal.Journal.at.Goals as goal
 
 pub returns-then-lsn-end-clause-damaged : goal.returns-then-lsn-end-clause-damaged

@@ -1,5 +1,4 @@
-use Rattle.rm_pool.proofs.JournalEnds.{next_is_end}
-use Rattle.rm_pool.proofs.JournalSteps.{known_of}
+use Rattle.rm_pool.proofs.Journals.{next_is_end, known_of}
 use Rattle.rm_pool.proofs.journal.Journal.end.Goals as goal
 
 pub returns-clause-next : goal.returns-clause-next

@@ -1,5 +1,5 @@
 use Rattle.std.proofs.Common.{refl}
-use Rattle.rm_pool.proofs.JournalSteps.{stands_at_opening}
+use Rattle.rm_pool.proofs.Journals.{stands_at_opening}
 use Rattle.rm_pool.proofs.journal.Journal.over.Goals as goal
 
 pub invariant_of-result : goal.invariant_of-result
