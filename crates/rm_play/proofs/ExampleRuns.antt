@@ -34,7 +34,7 @@ data Printed : Type 0 where
 abbrev printed_of : Actor → Seen → Option Outcome → List Printed → List Printed
 printed_of (Session k) seen (Some outcome) before = replies_with k (reply_of outcome) ∷ before
 printed_of (Session k) (sees.Waits rid holder) None before = waits_for k holder.0 ∷ before
-printed_of actor seen done before = before
+printed_of _ _ _ before = before
 
 -- the newest first
 abbrev printed_from : List Event → List Printed
