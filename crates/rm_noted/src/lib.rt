@@ -1,4 +1,5 @@
 //! A value that only clauses read. No memory holds it, and to make it takes no time.
+#![tactic(auto)]
 
 ghost use Rattle.std.specs.Prelude.{◌≡◌};
 ghost use Rattle.std.specs.Borrow.{ftrue};

@@ -16,10 +16,10 @@ use denote.Shadow.{pure_i}
 use denote.Signature.{plain, types_at}
 use denote.Triple.Entry.{alive}
 use denote.Triple.Walked.{says, stay_none_ref, Stays, walk_of, ends_at, Goes-none_ref}
-use Rattle.rm_calls.specs.contracts.noted.Noted as noted
-use Rattle.rm_calls.specs.contracts.noted.Noted.of as f
-use Rattle.rm_calls.proofs.noted.Noted.of.Statement.{statement}
-use Rattle.rm_calls.proofs.noted.Noted.of.Code as code
+use Rattle.rm_noted.specs.contracts.Noted as noted
+use Rattle.rm_noted.specs.contracts.Noted.of as f
+use Rattle.rm_noted.proofs.Noted.of.Statement.{statement}
+use Rattle.rm_noted.proofs.Noted.of.Code as code
 
 pub of_spec : {M : Type 1} → statement M
 of_spec 𝓤 𝓛 𝓜 𝓡 wired V A LV LA =
