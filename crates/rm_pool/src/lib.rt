@@ -1,0 +1,8 @@
+//! What stands between an engine and its volume. A [`Journal`] is a volume and the log on it, owned together: what was
+//! logged since the opening, how much of that is durable, and that each image which a crash might have left since then
+//! has a log that begins it.
+#![tactic(auto)]
+
+mod journal;
+
+pub use journal::Journal;
