@@ -54,18 +54,32 @@ pub record IsForFixed (frames : FramesValue) (what : LogRecord) : Type 0 where
   pub page : IfSome (set_by what) (λ set. frames.page ≡ Some set.0.page)
   pub block : IfSome (entered_by what) (λ entered. frames.block ≡ Some (entered.0 / BLOCK_PAGES))
 
--- The file cannot have the slot that the record sets, or the category that it enters: there is no such page, the page cannot
--- have the slot, or no category is so great.
-abbrev pub CannotTake : FramesValue → LogRecord → Type 0
-CannotTake frames what =
+-- the file cannot have the slot that the record sets: there is no such page, or it has no such slot to be vacant, or no room for the row
+abbrev pub CannotSet : FramesValue → LogRecord → Type 0
+CannotSet frames what =
     IsSomeAnd (set_by what) (λ set. (frames.size ≤ set.0.page) ⊎ CannotHave (page_of frames.applied set.0.page) set.0.slot set.1)
-    ⊎ IsSomeAnd (entered_by what) (λ entered. (frames.size ≤ entered.0) ⊎ (MAX_CATEGORY < entered.1))
+
+-- it cannot have the category that the record enters: there is no such page, or no such category
+abbrev pub CannotEnter : FramesValue → LogRecord → Type 0
+CannotEnter frames what = IsSomeAnd (entered_by what) (λ entered. (frames.size ≤ entered.0) ⊎ (MAX_CATEGORY < entered.1))
+
+-- The file cannot have what the record does.
+abbrev pub CannotTake : FramesValue → LogRecord → Type 0
+CannotTake frames what = CannotSet frames what ⊎ CannotEnter frames what
 
 -- the spare memory is enough for these slots to have this in one of them: a row may need some, a vacant slot never does
 abbrev pub HasMemory : List Slot → ℕ → Slot → Option ℕ → Type 0
 HasMemory slots number Vacant spare = Unit {0}
 HasMemory slots number (Row row) None = ⊥
 HasMemory slots number (Row row) (Some spare) = IsReady slots number spare
+
+-- so each page that is set has room and memory, and each entry that is entered is there
+abbrev pub MaySet : List PageValue → Option ℕ → Rid × Slot → Type 0
+MaySet pages spare one = (one.0.page < length pages) × ((other : PageValue) → let slots = (slice_index_or pages one.0.page other).slots in
+    (CannotHave slots one.0.slot one.1 → ⊥) × HasMemory slots one.0.slot one.1 spare)
+
+abbrev pub MayEnter : List InventoryValue → ℕ × ℕ → Type 0
+MayEnter blocks one = ((one.0 / BLOCK_PAGES) < length blocks) × (one.1 ≤ MAX_CATEGORY)
 
 -- The record may be put with this spare memory.
 pub record IsReadyFor (frames : FramesValue) (what : LogRecord) (spare : Option ℕ) : Type 0 where
