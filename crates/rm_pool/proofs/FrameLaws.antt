@@ -1,5 +1,5 @@
 -- What of the pages and blocks in memory holds once one is added or changed, and once a record is applied.
-use Rattle.std.proofs.Common.{◌≡◌, ℕ, ◌+◌, ◌-◌, ◌*◌, ◌/◌, ◌%◌, ◌⊎◌, ◌<◌, ◌≤◌, ◌==◌, if◌then◌else◌, true, false, List, [], ◌∷◌, ◌++◌, length, get_or, set, slice_index, Option, Some, None, IfSome, refl, sym, subst, ap, ◌∙◌, inl, inr, arith, rules}
+use Rattle.std.proofs.Common.{◌≡◌, ℕ, ◌+◌, ◌-◌, ◌*◌, ◌/◌, ◌%◌, ◌⊎◌, ◌<◌, ◌≤◌, ◌==◌, if◌then◌else◌, true, false, List, [], ◌∷◌, ◌++◌, length, get_or, set, slice_index, Option, Some, None, IfSome, IsSomeAnd, option_map, refl, sym, subst, ap, ◌∙◌, inl, inr, arith, rules}
 use Rattle.std.proofs.lemmas.Bool.{cases_eq, cases_lt, eq-eqb, ne_eqb}
 use Rattle.std.proofs.lemmas.Option.{none-some, same_Some}
 use Rattle.std.proofs.lemmas.List.{length-append, get_or_append_left, get_or_push, get_or-set_same, get_or-set_other, length-set}
@@ -15,8 +15,8 @@ use Rattle.rm_history.specs.Contents.{page_after, entry_after, page_of, version_
 use Rattle.rm_inventory.specs.Inventory.{InventoryValue}
 use Rattle.rm_apply.specs.declared.answers.Applied.TheVariants.{Changed, Older}
 use Rattle.rm_apply.specs.declared.answers.Applied.{Applied}
-use Rattle.rm_apply.specs.Redo.{set_by, Redoes}
-use Rattle.rm_apply.specs.Entries.{entered_by, RedoesEntry}
+use Rattle.rm_apply.specs.Redo.{set_by, rid_of, ChangesPage, Redoes}
+use Rattle.rm_apply.specs.Entries.{entered_by, ChangesBlock, RedoesEntry}
 use Rattle.rm_pool.specs.Frames.{EachIs, IsPageOf, IsBlockOf, AreFrames, IsAfter, blocks_for}
 
 -- one more at the end
@@ -233,14 +233,14 @@ blocks_entered history what lsn one blocks old new is each inside read count now
     each_block_with history what lsn.0 one blocks new is each
     (block_entered history what lsn one old new is (read_is (IsBlockOf history) blocks (one.0 / BLOCK_PAGES) old each inside read) count now made)
 
-pub pages_redone : (history : History) (what : LogRecord) (lsn : Lsn) (one : Rid × Slot) (applied : Applied) (pages : List PageValue) (old new : PageValue)
+pages_redone : (history : History) (what : LogRecord) (lsn : Lsn) (one : Rid × Slot) (applied : Applied) (pages : List PageValue) (old new : PageValue)
     → set_by what ≡ Some one → EachIs (IsPageOf history) pages → IsAfter history lsn.0 → one.0.page < length pages → old ≡ get_or pages one.0.page old
     → Redoes one.0.page old what lsn applied new → EachIs (IsPageOf (act_at lsn.0 what ∷ history)) (set pages one.0.page new)
 pages_redone history what lsn one applied pages old new is each after inside read made =
     let was : IsPageOf history one.0.page old = read_is (IsPageOf history) pages one.0.page old each inside read in
     each_page_with history what lsn.0 one pages new is each (page_redone history what lsn one applied old new is was (version_below history one.0.page lsn.0 after) made)
 
-pub blocks_redone : (history : History) (what : LogRecord) (lsn : Lsn) (one : ℕ × ℕ) (applied : Applied) (blocks : List InventoryValue) (old new : InventoryValue)
+blocks_redone : (history : History) (what : LogRecord) (lsn : Lsn) (one : ℕ × ℕ) (applied : Applied) (blocks : List InventoryValue) (old new : InventoryValue)
     → entered_by what ≡ Some one → EachIs (IsBlockOf history) blocks → IsAfter history lsn.0 → (one.0 / BLOCK_PAGES) < length blocks → old ≡ get_or blocks (one.0 / BLOCK_PAGES) old
     → RedoesEntry (one.0 / BLOCK_PAGES) old what lsn applied new → EachIs (IsBlockOf (act_at lsn.0 what ∷ history)) (set blocks (one.0 / BLOCK_PAGES) new)
 blocks_redone history what lsn one applied blocks old new is each after inside read made =
@@ -260,3 +260,43 @@ frames_after history next pages more blocks others page block fixed fixed_block 
   page_inside = subst (λ (l : ℕ). IfSome fixed (λ number. number < l)) (sym same_pages) page_inside;
   block_inside = subst (λ (l : ℕ). IfSome fixed_block (λ number. number < l)) (sym same_blocks) block_inside;
 }
+
+-- the slot that a record sets, by its row id
+set_with : (set : Option (Rid × Slot)) (rid : Rid) → option_map (λ (one : Rid × Slot). one.0) set ≡ Some rid → (slot : Slot) × (set ≡ Some (rid, slot))
+set_with None rid is = absurd (none-some rid is)
+set_with (Some one) rid is = (one.1, ap (λ (r : Rid). Some (r, one.1)) (same_Some one.0 rid is))
+
+unset : (set : Option (Rid × Slot)) → option_map (λ (one : Rid × Slot). one.0) set ≡ None → set ≡ None
+unset None is = refl
+unset (Some one) is = absurd (none-some one.0 (sym is))
+
+-- the frames after a record that redo applied, or that changes neither a page nor a block
+pub frames_with_page : (history : History) (what : LogRecord) (lsn : Lsn) (rid : Rid) (applied : Applied) (pages : List PageValue) (blocks : List InventoryValue) (page block : Option ℕ)
+    (old new : PageValue) → AreFrames history pages blocks page block → IsAfter history lsn.0 → entered_by what ≡ None → Some rid ≡ rid_of what → rid.page < length pages
+    → old ≡ get_or pages rid.page old → ((number : ℕ) → ChangesPage what number → Redoes number old what lsn applied new)
+    → AreFrames (act_at lsn.0 what ∷ history) (set pages rid.page new) blocks (Some rid.page) block
+frames_with_page history what lsn rid applied pages blocks page block old new was after none named inside read made =
+    let one : (slot : Slot) × (set_by what ≡ Some (rid, slot)) = set_with (set_by what) rid (sym named) in
+    let redone : Redoes rid.page old what lsn applied new = made rid.page (subst (λ (o : Option (Rid × Slot)). IsSomeAnd o (λ set. set.0.page ≡ rid.page)) (sym one.1) refl) in
+    frames_after history (act_at lsn.0 what ∷ history) pages (set pages rid.page new) blocks blocks page block (Some rid.page) block was (length-set pages rid.page new) refl
+    (pages_redone history what lsn (rid, one.0) applied pages old new one.1 was.each_page after inside read redone)
+    (blocks_kept history what lsn.0 blocks none was.each_block) inside was.block_inside
+
+pub frames_with_block : (history : History) (what : LogRecord) (lsn : Lsn) (one : ℕ × ℕ) (applied : Applied) (pages : List PageValue) (blocks : List InventoryValue) (page block : Option ℕ)
+    (old new : InventoryValue) → AreFrames history pages blocks page block → IsAfter history lsn.0 → Some one ≡ entered_by what → one.0 < length pages
+    → old ≡ get_or blocks (one.0 / BLOCK_PAGES) old → ((number : ℕ) → ChangesBlock what number → RedoesEntry number old what lsn applied new)
+    → AreFrames (act_at lsn.0 what ∷ history) pages (set blocks (one.0 / BLOCK_PAGES) new) page (Some (one.0 / BLOCK_PAGES))
+frames_with_block history what lsn one applied pages blocks page block old new was after named inside read made =
+    let number : ℕ = one.0 / BLOCK_PAGES in
+    let redone : RedoesEntry number old what lsn applied new =
+        made number (subst (λ (o : Option (ℕ × ℕ)). IsSomeAnd o (λ entered. (entered.0 / BLOCK_PAGES) ≡ number)) named refl) in
+    let there : number < length blocks = omega (arith, was.count) in
+    frames_after history (act_at lsn.0 what ∷ history) pages pages blocks (set blocks number new) page block page (Some number) was refl (length-set blocks number new)
+    (pages_kept history what lsn.0 pages (enters_alone what one (sym named)) was.each_page)
+    (blocks_redone history what lsn one applied blocks old new (sym named) was.each_block after there read redone) was.page_inside there
+
+pub frames_kept : (history : History) (what : LogRecord) (lsn : ℕ) (pages : List PageValue) (blocks : List InventoryValue) (page block : Option ℕ)
+    → AreFrames history pages blocks page block → entered_by what ≡ None → rid_of what ≡ None → AreFrames (act_at lsn what ∷ history) pages blocks page block
+frames_kept history what lsn pages blocks page block was no_entry no_slot =
+    frames_after history (act_at lsn what ∷ history) pages pages blocks blocks page block page block was refl refl
+    (pages_kept history what lsn pages (unset (set_by what) no_slot) was.each_page) (blocks_kept history what lsn blocks no_entry was.each_block) was.page_inside was.block_inside
