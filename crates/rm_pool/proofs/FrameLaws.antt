@@ -1,25 +1,19 @@
 -- The pages and blocks in memory after one more record.
-use Rattle.std.proofs.Common.{◌≡◌, ℕ, ◌+◌, ◌-◌, ◌*◌, ◌/◌, ◌%◌, ◌⊎◌, ◌<◌, ◌≤◌, ◌==◌, if◌then◌else◌, true, false, List, [], ◌∷◌, ◌++◌, length, get_or, set, slice_index, Option, Some, None, IfSome, IsSomeAnd, option_map, refl, sym, subst, ap, ◌∙◌, inl, inr, arith, rules}
-use Rattle.std.proofs.lemmas.Bool.{cases_eq, cases_lt, eq-eqb, ne_eqb}
+use Rattle.std.proofs.Common.{◌≡◌, ℕ, ◌/◌, ◌<◌, List, [], ◌∷◌, length, get_or, set, Option, Some, None, IfSome, option_map, refl, sym, ap, arith, rules}
 use Rattle.std.proofs.lemmas.Option.{none-some, same_Some}
-use Rattle.std.proofs.lemmas.List.{length-append, get_or_append_left, get_or_push, get_or-set_same, get_or-set_other, length-set}
 use Rattle.rm_types.specs.declared.numbers.Rid.{Rid}
 use Rattle.rm_types.specs.declared.numbers.Lsn.{Lsn}
 use Rattle.rm_types.specs.declared.numbers.TheConstants.{BLOCK_PAGES}
 use Rattle.rm_types.specs.declared.slots.Slot.{Slot}
-use Rattle.rm_model.specs.Pages.{PageValue, set_slot}
+use Rattle.rm_model.specs.Pages.{PageValue}
 use Rattle.rm_record.specs.declared.records.LogRecord.{LogRecord}
-use Rattle.rm_record.specs.declared.records.LogRecord.TheVariants.{Insert, Delete, Update, Compensate, Inventory, Commit, End, Checkpoint}
-use Rattle.rm_history.specs.Acts.{History, changes, undoes, enters, commits, ends, marks, act_at, lsn_of}
-use Rattle.rm_history.specs.Contents.{page_after, entry_after, page_of, version_of, entry_of, block_version_of}
+use Rattle.rm_history.specs.Acts.{History, changes, undoes, enters, commits, ends, marks, act_at}
+use Rattle.rm_history.specs.Contents.{version_of, block_version_of}
 use Rattle.rm_inventory.specs.Inventory.{InventoryValue}
-use Rattle.rm_apply.specs.declared.answers.Applied.TheVariants.{Changed, Older}
 use Rattle.rm_apply.specs.declared.answers.Applied.{Applied}
 use Rattle.rm_apply.specs.Redo.{set_by, rid_of, ChangesPage, Redoes}
 use Rattle.rm_apply.specs.Entries.{entered_by, ChangesBlock, RedoesEntry}
-use Rattle.rm_pool.specs.Frames.{EachIs, IsPageOf, IsBlockOf, AreFrames, IsAfter, blocks_for}
-
-use Rattle.std.proofs.lemmas.Grind.{common_steps}
+use Rattle.rm_pool.specs.Frames.{EachIs, IsPageOf, IsBlockOf, AreFrames, IsAfter}
 
 -- the LSN of a later record is above those of the pages and of the blocks
 version_below : (history : History) (page lsn : ℕ) → IsAfter history lsn → version_of history page < lsn

@@ -87,7 +87,10 @@ fn set_of(what: LogRecord) -> Option<(Rid, Slot)>
         LogRecord::Insert { rid, row, .. } => Some((rid, Slot::Row(row))),
         LogRecord::Delete { rid, old: _old, .. } => Some((rid, Slot::Vacant)),
         LogRecord::Update {
-            rid, old: _old, new, ..
+            rid,
+            old: _old,
+            new,
+            ..
         } => Some((rid, Slot::Row(new))),
         LogRecord::Compensate { rid, back, .. } => Some((rid, back)),
         LogRecord::Inventory { .. } | LogRecord::Commit { .. } | LogRecord::End { .. } => None,
@@ -108,7 +111,11 @@ fn ready(page: &Page, number: u16, row: Option<&Row>) -> Result<Option<Spare>, A
     ensures no_memory { IfErr result (λ e. e ≡ refused.NoMemory → CannotHave page.now.slots number (slot_of (option_copied row.entry)) → ⊥) }
 {
     let Some(row) = row else {
-        return if number < page.slots() { Ok(None) } else { Err(ApplyRefused::Unfit) };
+        return if number < page.slots() {
+            Ok(None)
+        } else {
+            Err(ApplyRefused::Unfit)
+        };
     };
     if page.used_with(number, row.as_slice()) > CAPACITY as usize {
         return Err(ApplyRefused::Unfit);
