@@ -164,7 +164,7 @@ impl<V: Volume> Journal<V> {
         ensures ok { OnOk result (self.new ≡ record self.old { volume = self.new.volume; log = flushed self.old.log; durable = self.old.history }) }
         ensures empty { self.old.log.tail ≡ [] → IsOk result × (self.new ≡ self.old) }
         ensures err { OnErr result (self.new ≡ record self.old { volume = self.new.volume; log = self.new.log; is_known = false }) }
-        ensures images { AtEachMoment V.Volume self.old.volume self.new.volume (IsBetween self.old.durable self.old.history) }
+        ensures any_moment { AtEachMoment V.Volume self.old.volume self.new.volume (IsBetween self.old.durable self.old.history) }
         ensures keeps { ReadsNothing V.Volume self.old.volume self.new.volume }
         ensures cause { FailsIn V.Volume Area.Log self.old.opened self.new.volume result }
     {
@@ -190,7 +190,7 @@ impl<V: Volume> Journal<V> {
         requires { IsTrue self.old.is_known }
         ensures found { IfOk result (λ found. V.models_content self.new.volume → IsRecordAt self.old.history lsn.0 found) }
         ensures damaged { (area : Areas) (at : ℕ) → result ≡ Err (StoreFault.Fault (Fault.Damaged area at)) → (area ≡ Area.Log) × (at ≡ lsn.0) × (V.models_content self.new.volume → HasNoRecordAt self.old.history lsn.0) }
-        ensures images { AtEachMoment V.Volume self.old.volume self.new.volume (IsBetween self.old.durable self.old.history) }
+        ensures any_moment { AtEachMoment V.Volume self.old.volume self.new.volume (IsBetween self.old.durable self.old.history) }
         ensures cause { StoreFailsIn V.Volume Area.Log self.old.opened self.new.volume result }
         ensures reads { OnlyReads V.Volume Area.Log self.old.volume self.new.volume }
         ensures unread { self.old.log.batch ≤ lsn.0 → self.new ≡ self.old }

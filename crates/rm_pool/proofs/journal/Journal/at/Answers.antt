@@ -15,8 +15,8 @@ returns-then-lsn-end-clause-damaged g c = λ area at is.
           (λ models. none_past known (g.met.V.Volume.content_may_stay c.self.inside.volume models) c.args.lsn.0 past),
     )
 
-pub returns-then-lsn-end-clause-images : goal.returns-then-lsn-end-clause-images
-returns-then-lsn-end-clause-images g c =
+pub returns-then-lsn-end-clause-any_moment : goal.returns-then-lsn-end-clause-any_moment
+returns-then-lsn-end-clause-any_moment g c =
     let known = known_of c.self.invariant.0 c.self.view_is c.requires in
     rw (← c.self.view_is) (started _ _ _ (λ image left. between_now known image (g.met.V.Volume.only_now c.self.inside.volume image left)))
 
@@ -44,5 +44,5 @@ returns-clause-damaged g c = λ area at is.
           (λ below. damaged.2 below models) damaged.3),
     )
 
-pub returns-clause-images : goal.returns-clause-images
-returns-clause-images g c = rw (← c.self.view_is) (read_between (known_of c.self.invariant.0 c.self.view_is c.requires) c.at.ensures.reads.0)
+pub returns-clause-any_moment : goal.returns-clause-any_moment
+returns-clause-any_moment g c = rw (← c.self.view_is) (read_between (known_of c.self.invariant.0 c.self.view_is c.requires) c.at.ensures.reads.0)

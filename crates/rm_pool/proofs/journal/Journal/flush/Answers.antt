@@ -32,8 +32,8 @@ returns-in-Ok-clause-empty g c = λ none.
           ((λ i. view_of (stays.2 i) it.opened (stays.1 i) (record it.past { durable = sym (all_durable known empty) i })) ∙ c.self.view_is),
     )
 
-pub returns-in-Ok-clause-images : goal.returns-in-Ok-clause-images
-returns-in-Ok-clause-images g c = rw (← c.self.view_is) (flush_between (known_of c.self.invariant.0 c.self.view_is c.requires) c.flush.ensures.steps.0)
+pub returns-in-Ok-clause-any_moment : goal.returns-in-Ok-clause-any_moment
+returns-in-Ok-clause-any_moment g c = rw (← c.self.view_is) (flush_between (known_of c.self.invariant.0 c.self.view_is c.requires) c.flush.ensures.steps.0)
 
-pub returns-in-Err-clause-images : goal.returns-in-Err-clause-images
-returns-in-Err-clause-images g c = rw (← c.self.view_is) (flush_between (known_of c.self.invariant.0 c.self.view_is c.requires) c.flush.ensures.steps.0)
+pub returns-in-Err-clause-any_moment : goal.returns-in-Err-clause-any_moment
+returns-in-Err-clause-any_moment g c = rw (← c.self.view_is) (flush_between (known_of c.self.invariant.0 c.self.view_is c.requires) c.flush.ensures.steps.0)
