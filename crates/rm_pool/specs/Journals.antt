@@ -14,8 +14,8 @@ use Rattle.rm_history.specs.Sizes.{IsNext}
 use Rattle.rm_wal.specs.Flushing.{Tails}
 use Rattle.rm_wal.specs.Tails.{LogValue, end_of}
 
--- The volume now and at the opening; the log in memory; what the records of the log do, those of its tail among them, and
--- how much of that is durable. No flush has failed while that is known.
+-- The volume now and at the opening; the log in memory; what the records of the log do, those of its tail among them; how
+-- much of that is durable; and whether that is known, since no flush has failed.
 pub record JournalValue (V : Type 0) : Type 0 where
   pub volume : V
   pub opened : V
@@ -30,6 +30,7 @@ pub record PastValue : Type 0 where
   pub durable : History
   pub is_known : Bool
 
+-- all of it
 abbrev pub view_of : {V : Type 0} → (volume opened : V) → LogValue → PastValue → JournalValue V
 view_of volume opened log past =
     record { volume = volume; opened = opened; log = log; history = past.history; durable = past.durable; is_known = past.is_known }
