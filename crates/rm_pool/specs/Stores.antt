@@ -1,9 +1,9 @@
 -- A store: the log on its volume, and the pages and the inventory as the log has them.
-use Rattle.std.specs.Prelude.{◌≡◌, ℕ, ◌+◌, ◌≤◌, ◌<◌, Option, Some, ◌∷◌, ◌++◌, length, ◌⊎◌}
+use Rattle.std.specs.Prelude.{◌≡◌, ℕ, ◌+◌, ◌≤◌, ◌<◌, Some, ◌∷◌, ◌++◌, length, ◌⊎◌}
 use Rattle.rm_types.specs.declared.numbers.TheConstants.{MAX_LOG}
 use Rattle.rm_record.specs.declared.records.LogRecord.{LogRecord}
 use Rattle.rm_record.specs.Records.{spelling}
-use Rattle.rm_history.specs.Acts.{History, act_at}
+use Rattle.rm_history.specs.Acts.{act_at}
 use Rattle.rm_wal.specs.declared.log.TheConstants.{LONG_TAIL}
 use Rattle.rm_wal.specs.Tails.{end_of}
 use Rattle.rm_pool.specs.Journals.{JournalValue, flushed}
