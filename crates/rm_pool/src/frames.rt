@@ -103,7 +103,7 @@ fn set_of(what: LogRecord) -> Option<(Rid, Slot)>
     }
 }
 
-// Spare memory for a page to have this row in a slot, or no row: none where the slot is to be vacant.
+// Spare memory for a page to have this row in a slot, or for the slot to be vacant, which takes none.
 fn ready(page: &Page, number: u16, row: Option<&Row>) -> Result<Option<Spare>, ApplyRefused>
     ensures memory { IfOk result (HasMemory page.now.slots number (slot_of (option_copied row.entry))) }
     ensures fits { OnOk result (CannotHave page.now.slots number (slot_of (option_copied row.entry)) → ⊥) }
@@ -230,8 +230,8 @@ impl Frames {
         &self.blocks[number as usize]
     }
 
-    /// Spare memory for a record to be put into what is fixed, see [`Frames::put`]. No call but `fix` and `fix_block` may
-    /// come between.
+    /// Spare memory for [`Frames::put`] to apply a record to the fixed page or block: none where it puts no row. It serves
+    /// until a record is applied or something else is fixed.
     ///
     /// # Errors
     ///
