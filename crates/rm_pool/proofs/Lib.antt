@@ -1,2 +1,3 @@
 pub mod JournalSteps
 pub mod JournalLookups
+pub mod FrameLaws

@@ -3,6 +3,10 @@
 //! has a log that begins it.
 #![tactic(auto)]
 
+mod frames;
 mod journal;
+mod store;
 
+pub use frames::Frames;
 pub use journal::Journal;
+pub use store::Store;
