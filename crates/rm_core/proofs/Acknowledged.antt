@@ -1,15 +1,8 @@
 -- What is acknowledged is in the order of commits, and durable.
-use Rattle.std.proofs.Common.{◌≡◌, inl, inr, ℕ, List, [], ◌∷◌, Option, Some, None, subst}
-use Rattle.rm_history.specs.Acts.{Act, History, lists, marks}
-use Rattle.rm_events.specs.declared.events.Seen.{Seen}
-use Rattle.rm_core.specs.Durable.{IsForcedFor, IsDurable}
-use Rattle.rm_core.specs.Effects.{effect, logging}
-use Rattle.rm_core.specs.Events.{Event, event_of}
-use Rattle.rm_core.specs.Laws.{AcknowledgedIsDurable}
-use Rattle.rm_core.specs.Orders.{order_of, IsAmong, IsAcknowledged}
-use Rattle.rm_core.specs.Outcomes.{committed}
-use Rattle.rm_core.specs.Runs.{Machine, IsRun}
-use Rattle.rm_core.specs.Searches.{seens_of}
+use Rattle.rm_core.specs.Below.{◌≡◌, ℕ, List, [], ◌∷◌, Option, Some, None, Act, History, lists, marks, Seen}
+use Rattle.rm_core.specs.Names.{IsForcedFor, IsDurable, effect, logging, Event, event_of, AcknowledgedIsDurable, order_of, IsAmong, IsAcknowledged, committed}
+use Rattle.rm_core.specs.Names.{Machine, IsRun, seens_of}
+use Rattle.rm_core.proofs.Names.{inl, inr, subst}
 use Rattle.rm_core.proofs.Along.{setting_of, seat_of, append_event, rest_event, turned, kept_along}
 use Rattle.rm_core.proofs.Stages.{among_more, durable_more, run_says, Told, turn_told}
 

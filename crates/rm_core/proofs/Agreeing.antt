@@ -1,53 +1,26 @@
 -- What an unfinished transaction was told is what one user alone may be told, and what it changed is what is pending.
-use Rattle.std.proofs.Common.{◌≡◌, ◌⊎◌, inl, inr, ℕ, ◌<◌, ◌≤◌, cond, true, false, List, [], ◌∷◌, length, Option, Some, None}
-use Rattle.std.proofs.Common.{refl, sym, ap, subst, subst₂, ◌∙◌, arith}
-use Rattle.std.proofs.lemmas.Bool.{cases_eq}
-use Rattle.rm_types.specs.declared.formats.Format.{Format}
-use Rattle.rm_types.specs.declared.numbers.Rid.{Rid}
-use Rattle.rm_types.specs.declared.slots.Slot.{Slot}
-use Rattle.rm_types.specs.declared.slots.Slot.TheVariants.{Vacant, Row}
-use Rattle.rm_model.specs.Pages.{row_of, row_at, slot_at}
-use Rattle.rm_model.specs.Object.{Rows, is_same_place}
-use Rattle.rm_history.specs.Acts.{Act, Change, Undo, History, changes, undoes, commits, ends, newest_lsn}
-use Rattle.rm_history.specs.Contents.{page_of}
-use Rattle.rm_history.specs.Pending.{pending_of, last_of}
-use Rattle.rm_history.specs.Transactions.{IsFinished, HasRecord}
-use Rattle.rm_history.specs.Rows.{with_slot, applied, rows_of_log}
-use Rattle.rm_history.specs.Rules.{IsInOrder}
+use Rattle.rm_core.specs.Below.{◌≡◌, ◌⊎◌, ℕ, ◌<◌, ◌≤◌, true, false, List, [], ◌∷◌, length, Option, Some, None, Format, Rid, Slot, Vacant, Row, row_of, row_at}
+use Rattle.rm_core.specs.Below.{slot_at, Rows, is_same_place, Act, Change, Undo, History, changes, undoes, commits, ends, newest_lsn, page_of, pending_of}
+use Rattle.rm_core.specs.Below.{last_of, IsFinished, HasRecord, with_slot, applied, rows_of_log, IsInOrder, undo_for, Op}
 use Rattle.rm_history.specs.Laws.{IsChanged}
-use Rattle.rm_history.specs.Undoing.{undo_for}
-use Rattle.rm_history.proofs.Chains.{last_is_of}
-use Rattle.rm_history.proofs.FallingLsns.{pending_falls}
-use Rattle.rm_history.proofs.Finished.{finished_has_record, unrecorded_has_none}
 use Rattle.rm_history.proofs.Holding.{pages_hold_what_is_pending, pages_hold_what_is_committed}
 use Rattle.rm_history.proofs.LeadsBack.{applied_free, cases_changed}
-use Rattle.rm_history.proofs.NeedSums.{pending_of-undo}
 use Rattle.rm_history.proofs.PendingLaws.{changed_has_change, changed_unfinished}
-use Rattle.rm_history.proofs.PendingSteps.{if_equal, if_different, pending-change}
-use Rattle.rm_history.proofs.Prefixes.{legal_is_in_order}
-use Rattle.rm_events.specs.declared.operations.Op.TheVariants as ops
-use Rattle.rm_events.specs.declared.operations.Op.{Op}
-use Rattle.rm_core.specs.Effects.{change_of, staged, latched, logging, effect, after}
-use Rattle.rm_core.specs.Events.{Event, event_of, outcome_of, txn_of}
-use Rattle.rm_core.specs.Kept.{IsOver, Locked, Kept}
-use Rattle.rm_core.specs.Locks.{HasGrant, HoldsAlone}
-use Rattle.rm_core.specs.May.{IsSkipped, May, IsSeated, Wants, SlotFits}
-use Rattle.rm_core.specs.Moves.{closed}
-use Rattle.rm_core.specs.Object.{Single, MayDo, does, single_after, Allowed}
-use Rattle.rm_core.specs.Orders.{onto, ops_of, order_of, IsAmong}
-use Rattle.rm_core.specs.Outcomes.{Outcome, began, inserted, no_space, saw, altered, missed, full, saved, no_save, back_to, committed, skipped, refused}
-use Rattle.rm_core.specs.Outcomes.{unbound}
-use Rattle.rm_core.specs.Searching.{Scans}
-use Rattle.rm_core.specs.State.{Aim, undoes_all, returns, target_of, Savepoint, upto, Stage, idle, seeks, wants, tries, reads, fetches}
-use Rattle.rm_core.specs.State.{alters, sets, settles, rolls, prepares, compensates, Seat, Grant, State, seat_at}
-use Rattle.rm_core.specs.Turns.{Turn, skip, unname, refuse, begin, scan, scan_last, latch, try, try_last, insert, lock, lock_alone, wait, die, fetch, miss}
-use Rattle.rm_core.specs.Turns.{lack, alter, settled, settle, commit, force, finish, abort, prepared, prepare, compensate, end, save, no_target, target, back}
+use Rattle.rm_core.specs.Names.{change_of, staged, latched, logging, effect, after, Event, event_of, outcome_of, txn_of, IsOver, Locked, Kept, HasGrant}
+use Rattle.rm_core.specs.Names.{HoldsAlone, IsSkipped, May, IsSeated, Wants, SlotFits, closed, Single, MayDo, does, single_after, Allowed, onto, ops_of}
+use Rattle.rm_core.specs.Names.{order_of, IsAmong, Outcome, began, inserted, no_space, saw, altered, missed, full, saved, no_save, back_to, committed, skipped}
+use Rattle.rm_core.specs.Names.{refused, unbound, Scans, Aim, undoes_all, returns, target_of, Savepoint, upto, Stage, idle, seeks, wants, tries, reads, fetches}
+use Rattle.rm_core.specs.Names.{alters, sets, settles, rolls, prepares, compensates, Seat, Grant, State, seat_at, Turn, skip, unname, refuse, begin, scan}
+use Rattle.rm_core.specs.Names.{scan_last, latch, try, try_last, insert, lock, lock_alone, wait, die, fetch, miss, lack, alter, settled, settle, commit, force}
+use Rattle.rm_core.specs.Names.{finish, abort, prepared, prepare, compensate, end, save, no_target, target, back}
+use Rattle.rm_core.proofs.Names.{inl, inr, cond, refl, sym, ap, subst, subst₂, ◌∙◌, arith, cases_eq, last_is_of, pending_falls, finished_has_record}
+use Rattle.rm_core.proofs.Names.{unrecorded_has_none, pending_of-undo, if_equal, if_different, pending-change, legal_is_in_order}
 use Rattle.rm_core.proofs.Closing.{Closes}
-use Rattle.rm_core.proofs.Grants.{alone_has, released_any}
-use Rattle.rm_core.proofs.Grants.{joined_any, joined_more}
+use Rattle.rm_core.proofs.Grants.{alone_has, released_any, joined_any, joined_more}
 use Rattle.rm_core.proofs.Moves.{Moved, moved-set}
 use Rattle.rm_core.proofs.Savepoints.{until, until_less, until_all, MadeAt, Saved, saved_as, saved_dropped, saved_had, Found, found}
 use Rattle.rm_core.proofs.Sizes.{next_above}
+use Rattle.rm_events.specs.declared.operations.Op.TheVariants as ops
 
 -- ---- rows
 

@@ -1,22 +1,11 @@
 -- What holds of an opened machine, and is kept with each event and each closed operation, holds of each run.
-use Rattle.std.proofs.Common.{◌≡◌, inl, inr, ℕ, ◌<◌, List, [], ◌∷◌, length, set, None, refl, sym, subst}
-use Rattle.std.proofs.lemmas.Bool.{cases_eq}
-use Rattle.rm_history.specs.Acts.{Listing}
-use Rattle.rm_history.specs.Rules.{IsInOrder}
-use Rattle.rm_history.proofs.Prefixes.{legal_is_in_order}
-use Rattle.rm_events.specs.declared.events.Actor.{Actor}
-use Rattle.rm_events.specs.declared.events.Actor.TheVariants.{Checkpoint}
-use Rattle.rm_events.specs.declared.events.Seen.{Seen}
-use Rattle.rm_events.specs.declared.events.Seen.TheVariants as sees
-use Rattle.rm_core.specs.Effects.{after}
-use Rattle.rm_core.specs.Events.{Event, event_of}
-use Rattle.rm_core.specs.Moves.{Setting, again, log_full, spent, closed, appended, MayRest, Move, turns, answered, appends, append_refused, rests, Moves}
-use Rattle.rm_core.specs.Room.{HasRoomFor}
-use Rattle.rm_core.specs.Runs.{Opening, IsOpening, opened, Machine, IsRun, traced}
-use Rattle.rm_core.specs.State.{Seat, State, seat_at}
-use Rattle.rm_core.specs.Turns.{Turn}
+use Rattle.rm_core.specs.Below.{◌≡◌, ℕ, ◌<◌, List, [], ◌∷◌, length, None, Listing, IsInOrder, Actor, Checkpoint, Seen}
+use Rattle.rm_core.specs.Names.{after, Event, event_of, Setting, again, log_full, spent, closed, appended, MayRest, Move, turns, answered, appends}
+use Rattle.rm_core.specs.Names.{append_refused, rests, Moves, HasRoomFor, Opening, IsOpening, opened, Machine, IsRun, traced, Seat, State, seat_at, Turn}
+use Rattle.rm_core.proofs.Names.{inl, inr, set, refl, sym, subst, cases_eq, legal_is_in_order}
 use Rattle.rm_core.proofs.Moves.{Moved, moved-set}
 use Rattle.rm_core.proofs.Runs.{along, run_kept}
+use Rattle.rm_events.specs.declared.events.Seen.TheVariants as sees
 
 -- ---- parts of a machine
 

@@ -1,12 +1,8 @@
 -- An operation that is refused for want of room in the log is closed: what is known stays.
-use Rattle.std.proofs.Common.{◌≡◌, ℕ, ◌<◌, length, sym, ap, subst, ◌∙◌}
-use Rattle.rm_types.specs.declared.formats.Format.{Format}
-use Rattle.rm_core.specs.Effects.{after, goes_to, staged, with_effect}
-use Rattle.rm_core.specs.Kept.{Kept}
-use Rattle.rm_core.specs.May.{May}
-use Rattle.rm_core.specs.Moves.{Setting, closed, Lacks, IsRefused}
-use Rattle.rm_core.specs.State.{Stage, idle, tries, sets, State, seat_at}
-use Rattle.rm_core.specs.Turns.{Turn, begin, insert, alter}
+use Rattle.rm_core.specs.Below.{◌≡◌, ℕ, ◌<◌, length, Format}
+use Rattle.rm_core.specs.Names.{after, goes_to, staged, with_effect, Kept, May, Setting, closed, Lacks, IsRefused, Stage, idle, tries, sets, State, seat_at}
+use Rattle.rm_core.specs.Names.{Turn, begin, insert, alter}
+use Rattle.rm_core.proofs.Names.{sym, ap, subst, ◌∙◌}
 use Rattle.rm_core.proofs.Keeping.{Known, closes}
 use Rattle.rm_core.proofs.Moves.{same_state}
 

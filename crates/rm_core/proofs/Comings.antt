@@ -1,21 +1,10 @@
 -- A session gets a transaction, and lets it go.
-use Rattle.std.proofs.Common.{◌≡◌, ℕ, ◌+◌, ◌<◌, [], ◌∷◌, length, refl, sym, subst, arith, Option, Some, None}
-use Rattle.rm_types.specs.declared.formats.Format.{Format}
-use Rattle.rm_history.specs.Acts.{Act, Finish, ends}
-use Rattle.rm_history.specs.Pending.{pending_of}
-use Rattle.rm_history.specs.Transactions.{IsFinished}
-use Rattle.rm_history.specs.Legal.{IsLegal}
-use Rattle.rm_history.proofs.Elsewhere.{Elsewhere, elsewhere-none, elsewhere-end}
-use Rattle.rm_history.proofs.Finished.{finished_has_record}
+use Rattle.rm_core.specs.Below.{◌≡◌, ℕ, ◌+◌, ◌<◌, [], ◌∷◌, length, Option, Some, None, Format, Act, Finish, ends, pending_of, IsFinished, IsLegal}
 use Rattle.rm_history.proofs.Rollbacks.{HasEnded, has_ended}
-use Rattle.rm_core.specs.Effects.{Effect, logging, with_effect}
-use Rattle.rm_core.specs.Kept.{IsOver, Seated, Kept}
-use Rattle.rm_core.specs.Locks.{released, Latches}
-use Rattle.rm_core.specs.Outcomes.{Outcome}
-use Rattle.rm_core.specs.Sizes.{IsNext}
-use Rattle.rm_core.specs.State.{Stage, idle, finishes, undoes_all, rolls, Seat, State, seat_at, empty_seat}
+use Rattle.rm_core.specs.Names.{Effect, logging, with_effect, IsOver, Seated, Kept, released, Latches, Outcome, IsNext, Stage, idle, finishes, undoes_all}
+use Rattle.rm_core.specs.Names.{rolls, Seat, State, seat_at, empty_seat}
+use Rattle.rm_core.proofs.Names.{refl, sym, subst, arith, Elsewhere, elsewhere-none, elsewhere-end, finished_has_record}
 use Rattle.rm_core.proofs.Grants.{no_locks, more-released, released-less}
-use Rattle.rm_core.proofs.Grants.{released_any}
 use Rattle.rm_core.proofs.Moves.{moved_holds}
 use Rattle.rm_core.proofs.Quiet.{Turns, live}
 use Rattle.rm_core.proofs.Sizes.{next_above}

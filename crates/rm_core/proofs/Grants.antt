@@ -1,11 +1,7 @@
 -- The row locks: what one more leaves of them, and what is left of them where a transaction lets its own go.
-use Rattle.std.proofs.Common.{◌≡◌, inl, inr, ℕ, ◌&&◌, Bool, true, false, IsTrue, eqb, List, [], ◌∷◌, refl, sym, subst, ◌∙◌}
-use Rattle.std.proofs.lemmas.Bool.{cases_eq, eqb-true, and_parts, cond_both}
-use Rattle.rm_types.specs.declared.numbers.Rid.{Rid}
-use Rattle.rm_model.specs.Object.{is_same_place}
-use Rattle.rm_history.proofs.RowIds.{same_place}
-use Rattle.rm_core.specs.Locks.{is_same, is_grant, has_it, joined, released, Blocks, HasGrant, HoldsAlone}
-use Rattle.rm_core.specs.State.{Grant}
+use Rattle.rm_core.specs.Below.{◌≡◌, ℕ, ◌&&◌, Bool, true, false, IsTrue, List, [], ◌∷◌, Rid, is_same_place}
+use Rattle.rm_core.specs.Names.{is_same, is_grant, has_it, joined, released, Blocks, HasGrant, HoldsAlone, Grant}
+use Rattle.rm_core.proofs.Names.{inl, inr, eqb, refl, sym, subst, ◌∙◌, cases_eq, eqb-true, and_parts, cond_both, same_place}
 
 -- a transaction's locks on the row id are among the others
 pub record More (some all : List Grant) (txn : ℕ) (rid : Rid) : Type 0 where

@@ -1,28 +1,14 @@
 -- Every turn keeps what holds, and leaves the log the room that is kept.
-use Rattle.std.proofs.Common.{◌≡◌, ℕ, ◌+◌, ◌<◌, ◌≤◌, true, false, List, ◌∷◌, length, set, refl, sym, ap, subst, ◌∙◌, arith, Option, Some, None}
-use Rattle.std.proofs.lemmas.Bool.{ne_eqb}
-use Rattle.std.proofs.lemmas.List.{length-set}
-use Rattle.rm_types.specs.declared.formats.Format.{Format}
-use Rattle.rm_types.specs.declared.slots.Slot.TheVariants.{Row}
-use Rattle.rm_model.specs.Sums.{sum_below}
-use Rattle.rm_history.specs.Acts.{Act, Change, History, Undo, Entry, Finish, undoes, enters, commits}
-use Rattle.rm_history.specs.Pending.{pending_of}
-use Rattle.rm_history.specs.Undoing.{entry_for, undo_for}
-use Rattle.rm_history.proofs.Chains.{last_is_of}
-use Rattle.rm_model.proofs.Sums.{sum_below-one}
-use Rattle.rm_history.proofs.NeedSums.{pending_of-undo}
-use Rattle.rm_history.proofs.PendingSteps.{pending-undo_other, pending-commit_other, pending-end_other}
-use Rattle.rm_core.specs.Effects.{Effect, save_of, entry_now, latched, effect, after, goes_to, logging, with_effect}
-use Rattle.rm_core.specs.Kept.{Locked, Kept}
-use Rattle.rm_core.specs.May.{Wants, IsSeated, May, Step}
-use Rattle.rm_core.specs.Moves.{closed}
-use Rattle.rm_core.specs.Outcomes.{aborted, died}
-use Rattle.rm_core.specs.Room.{bytes_for, claims_at, claim_of, owed, claims, HasRoomFor, HasRoom}
-use Rattle.rm_core.specs.Sizes.{end_of}
-use Rattle.rm_core.specs.State.{Savepoint, undoes_all, returns, dropped, upto, Stage, idle, seeks, wants, tries, reads, fetches, alters, sets, settles, forces, finishes}
-use Rattle.rm_core.specs.State.{rolls, prepares, compensates, Seat, State, seat_at}
-use Rattle.rm_core.specs.Turns.{Turn, skip, unname, refuse, begin, scan, scan_last, latch, try, try_last, insert, lock, lock_alone, wait, die, fetch, miss, lack, alter}
-use Rattle.rm_core.specs.Turns.{settled, settle, commit, force, finish, abort, prepared, prepare, compensate, end, save, no_target, target, back}
+use Rattle.rm_core.specs.Below.{◌≡◌, ℕ, ◌+◌, ◌<◌, ◌≤◌, true, false, List, ◌∷◌, length, Option, Some, None, Format, Row, sum_below, Act, Change, History, Undo}
+use Rattle.rm_core.specs.Below.{Entry, Finish, undoes, enters, commits, pending_of, entry_for, undo_for}
+use Rattle.rm_core.specs.Names.{Effect, save_of, entry_now, latched, effect, after, goes_to, logging, with_effect, Locked, Kept, Wants, IsSeated, May, Step}
+use Rattle.rm_core.specs.Names.{closed, aborted, died, bytes_for, claims_at, claim_of, owed, claims, HasRoomFor, HasRoom, end_of, Savepoint, undoes_all}
+use Rattle.rm_core.specs.Names.{returns, dropped, upto, Stage, idle, seeks, wants, tries, reads, fetches, alters, sets, settles, forces, finishes, rolls}
+use Rattle.rm_core.specs.Names.{prepares, compensates, Seat, State, seat_at, Turn, skip, unname, refuse, begin, scan, scan_last, latch, try, try_last, insert}
+use Rattle.rm_core.specs.Names.{lock, lock_alone, wait, die, fetch, miss, lack, alter, settled, settle, commit, force, finish, abort, prepared, prepare}
+use Rattle.rm_core.specs.Names.{compensate, end, save, no_target, target, back}
+use Rattle.rm_core.proofs.Names.{set, refl, sym, ap, subst, ◌∙◌, arith, ne_eqb, length-set, last_is_of, sum_below-one, pending_of-undo, pending-undo_other}
+use Rattle.rm_core.proofs.Names.{pending-commit_other, pending-end_other}
 use Rattle.rm_core.proofs.Comings.{begin_keeps, finish_keeps, end_keeps}
 use Rattle.rm_core.proofs.Logging.{insert_keeps, alter_keeps, settle_keeps, prepare_keeps, compensate_keeps, commit_keeps}
 use Rattle.rm_core.proofs.Moves.{Moved, moved-set, same_state}

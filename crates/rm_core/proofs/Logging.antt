@@ -1,38 +1,16 @@
 -- What each turn keeps that logs a record and leaves the session its transaction.
-use Rattle.std.proofs.Common.{◌≡◌, ◌⊎◌, inl, inr, ℕ, ◌<◌, true, List, ◌∷◌, refl, sym, ap, subst, ◌∙◌, arith, Some}
-use Rattle.std.proofs.lemmas.Bool.{eq-eqb}
-use Rattle.rm_types.specs.declared.formats.Format.{Format}
-use Rattle.rm_types.specs.declared.numbers.Rid.{Rid}
-use Rattle.rm_types.specs.declared.slots.Slot.{Slot}
-use Rattle.rm_types.specs.declared.slots.Slot.TheVariants.{Vacant, Row}
-use Rattle.rm_model.specs.Pages.{slot_at}
-use Rattle.rm_model.specs.Categories.{category_of}
-use Rattle.rm_history.specs.Acts.{Act, Change, Undo, Entry, Finish, History, changes, undoes, enters, commits, newest_lsn}
-use Rattle.rm_history.specs.Contents.{page_of}
-use Rattle.rm_history.specs.Pending.{pending_of}
-use Rattle.rm_history.specs.Transactions.{IsFinished, HasChange}
-use Rattle.rm_history.specs.Needs.{Fits}
-use Rattle.rm_history.specs.Rules.{MayEnter}
-use Rattle.rm_history.specs.Legal.{IsEntry, EntriesFollow, IsLegal}
-use Rattle.rm_history.specs.Undoing.{entry_for, undo_for}
+use Rattle.rm_core.specs.Below.{◌≡◌, ◌⊎◌, ℕ, ◌<◌, true, List, ◌∷◌, Some, Format, Rid, Slot, Vacant, Row, slot_at, category_of, Act, Change, Undo, Entry, Finish}
+use Rattle.rm_core.specs.Below.{History, changes, undoes, enters, commits, newest_lsn, page_of, pending_of, IsFinished, HasChange, Fits, MayEnter, IsEntry}
+use Rattle.rm_core.specs.Below.{EntriesFollow, IsLegal, entry_for, undo_for}
 use Rattle.rm_history.specs.UndoLaws.{IsUndone}
-use Rattle.rm_history.proofs.Chains.{last_is_of}
-use Rattle.rm_history.proofs.Elsewhere.{Elsewhere, elsewhere-change, elsewhere-undo, elsewhere-enter, elsewhere-commit}
-use Rattle.rm_history.proofs.Finished.{finished_or_not}
 use Rattle.rm_history.proofs.Following.{pending_there, entries_follow_change, entries_follow_entry}
-use Rattle.rm_history.proofs.NeedSums.{finish_fits}
-use Rattle.rm_history.proofs.PendingSteps.{pending-change, pending-commit_other}
-use Rattle.rm_history.proofs.Prefixes.{legal_is_in_order}
 use Rattle.rm_history.proofs.RoomLaws.{fitting_is_room}
-use Rattle.rm_history.proofs.UndoTheorem.{fits_in_order, entries_follow, no_undo_lacks_room}
-use Rattle.rm_core.specs.Effects.{change_of, setting, entry_now, with_grant}
-use Rattle.rm_core.specs.Kept.{Owes, IsOver, Heads, Readies, Locked, HeadOn, IsRight}
-use Rattle.rm_core.specs.Locks.{HasGrant, HoldsAlone, Latches, Looks}
-use Rattle.rm_core.specs.May.{SlotFits, MayAlter, MaySettle, MayPrepare}
-use Rattle.rm_core.specs.Outcomes.{Outcome, inserted, altered}
-use Rattle.rm_core.specs.Searching.{MayInsert}
-use Rattle.rm_core.specs.Sizes.{IsNext}
-use Rattle.rm_core.specs.State.{Aim, Stage, idle, tries, sets, settles, forces, rolls, prepares, compensates, Seat, Grant, State, seat_at}
+use Rattle.rm_core.specs.Names.{change_of, setting, entry_now, with_grant, Owes, IsOver, Heads, Readies, Locked, HeadOn, IsRight, HasGrant, HoldsAlone, Latches}
+use Rattle.rm_core.specs.Names.{Looks, SlotFits, MayAlter, MaySettle, MayPrepare, Outcome, inserted, altered, MayInsert, IsNext, Aim, Stage, idle, tries, sets}
+use Rattle.rm_core.specs.Names.{settles, forces, rolls, prepares, compensates, Seat, Grant, State, seat_at}
+use Rattle.rm_core.proofs.Names.{inl, inr, refl, sym, ap, subst, ◌∙◌, arith, eq-eqb, last_is_of, Elsewhere, elsewhere-change, elsewhere-undo, elsewhere-enter}
+use Rattle.rm_core.proofs.Names.{elsewhere-commit, finished_or_not, finish_fits, pending-change, pending-commit_other, legal_is_in_order, fits_in_order}
+use Rattle.rm_core.proofs.Names.{entries_follow, no_undo_lacks_room}
 use Rattle.rm_core.proofs.Grants.{Locks, no_locks, locks-joined, joined_alone, alone_has}
 use Rattle.rm_core.proofs.Quiet.{Turns, Says, LeftBy, stays, live, fewer}
 use Rattle.rm_core.proofs.Sizes.{next_above}

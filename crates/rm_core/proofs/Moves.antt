@@ -1,21 +1,10 @@
 -- What a session's turn keeps, whatever the turn is.
-use Rattle.std.proofs.Common.{◌≡◌, ◌⊎◌, inl, inr, ℕ, ◌<◌, ◌≤◌, List, length, set, sym, ap, subst, ◌∙◌, arith}
-use Rattle.std.proofs.lemmas.Bool.{cases_eq}
-use Rattle.std.proofs.lemmas.List.{get_or-set_same, get_or-set_other, set-get_or}
-use Rattle.rm_types.specs.declared.formats.Format.{Format}
-use Rattle.rm_types.specs.declared.numbers.Rid.{Rid}
-use Rattle.rm_types.specs.declared.slots.Slot.{Slot}
-use Rattle.rm_model.specs.Pages.{set_slot}
-use Rattle.rm_model.specs.Categories.{category_of}
-use Rattle.rm_history.specs.Acts.{Change, History}
-use Rattle.rm_history.specs.Pending.{pending_of}
-use Rattle.rm_history.specs.Transactions.{IsFinished, HasChange}
-use Rattle.rm_history.specs.Legal.{IsLegal}
-use Rattle.rm_history.proofs.Elsewhere.{Elsewhere}
-use Rattle.rm_core.specs.Effects.{Effect, logging, goes_to, with_effect}
-use Rattle.rm_core.specs.Kept.{target_at, Owes, Readies, Locked, HeadOn, Seated, IsRight, Kept}
-use Rattle.rm_core.specs.Locks.{HoldsAlone, Latches, Looks}
-use Rattle.rm_core.specs.State.{Stage, idle, reads, fetches, alters, sets, tries, settles, prepares, compensates, Seat, Grant, State, seat_at, empty_seat}
+use Rattle.rm_core.specs.Below.{◌≡◌, ◌⊎◌, ℕ, ◌<◌, ◌≤◌, List, length, Format, Rid, Slot, set_slot, category_of, Change, History, pending_of, IsFinished}
+use Rattle.rm_core.specs.Below.{HasChange, IsLegal}
+use Rattle.rm_core.specs.Names.{Effect, logging, goes_to, with_effect, target_at, Owes, Readies, Locked, HeadOn, Seated, IsRight, Kept, HoldsAlone, Latches}
+use Rattle.rm_core.specs.Names.{Looks, Stage, idle, reads, fetches, alters, sets, tries, settles, prepares, compensates, Seat, Grant, State, seat_at}
+use Rattle.rm_core.specs.Names.{empty_seat}
+use Rattle.rm_core.proofs.Names.{inl, inr, set, sym, ap, subst, ◌∙◌, arith, cases_eq, get_or-set_same, get_or-set_other, set-get_or, Elsewhere}
 use Rattle.rm_core.proofs.Grants.{More, AreApart}
 
 -- ---- stages

@@ -1,20 +1,10 @@
 -- Turns that leave the session its transaction.
-use Rattle.std.proofs.Common.{◌≡◌, ◌⊎◌, inl, inr, ℕ, ◌+◌, ◌<◌, List, ◌∷◌, length, refl, sym, subst, ◌∙◌, arith, Option, None}
-use Rattle.rm_types.specs.declared.formats.Format.{Format}
-use Rattle.rm_types.specs.declared.numbers.Rid.{Rid}
-use Rattle.rm_history.specs.Acts.{Act, Change, History}
-use Rattle.rm_history.specs.Contents.{entry_of}
-use Rattle.rm_history.specs.Pending.{pending_of}
-use Rattle.rm_history.specs.Transactions.{IsFinished, HasChange}
-use Rattle.rm_history.specs.Legal.{IsLegal}
-use Rattle.rm_history.specs.Undoing.{category_after}
-use Rattle.rm_history.proofs.Elsewhere.{Elsewhere, elsewhere-none}
-use Rattle.rm_core.specs.Effects.{Effect, logging, with_effect}
-use Rattle.rm_core.specs.Kept.{target_at, Owes, IsOver, Heads, Readies, Locked, HeadOn, Seated, IsRight, Kept}
-use Rattle.rm_core.specs.Locks.{HoldsAlone, Latches, Looks}
-use Rattle.rm_core.specs.Room.{claims_at}
-use Rattle.rm_core.specs.State.{Savepoint, target_of, Stage, idle, seeks, wants, reads, alters, settles, forces, finishes, rolls, prepares, compensates}
-use Rattle.rm_core.specs.State.{Seat, Grant, State, seat_at}
+use Rattle.rm_core.specs.Below.{◌≡◌, ◌⊎◌, ℕ, ◌+◌, ◌<◌, List, ◌∷◌, length, Option, None, Format, Rid, Act, Change, History, entry_of, pending_of, IsFinished}
+use Rattle.rm_core.specs.Below.{HasChange, IsLegal, category_after}
+use Rattle.rm_core.specs.Names.{Effect, logging, with_effect, target_at, Owes, IsOver, Heads, Readies, Locked, HeadOn, Seated, IsRight, Kept, HoldsAlone}
+use Rattle.rm_core.specs.Names.{Latches, Looks, claims_at, Savepoint, target_of, Stage, idle, seeks, wants, reads, alters, settles, forces, finishes, rolls}
+use Rattle.rm_core.specs.Names.{prepares, compensates, Seat, Grant, State, seat_at}
+use Rattle.rm_core.proofs.Names.{inl, inr, refl, sym, subst, ◌∙◌, arith, Elsewhere, elsewhere-none}
 use Rattle.rm_core.proofs.Grants.{Locks, no_locks}
 use Rattle.rm_core.proofs.Moves.{Apart, moved_holds, owes_latches}
 

@@ -1,35 +1,16 @@
 -- Restart's undo of each prefix of a run's log has room, since the sessions' claims cover it.
-use Rattle.std.proofs.Common.{◌≡◌, ◌⊎◌, inl, inr, ℕ, zero, suc, ◌+◌, ◌<◌, ◌≤◌, ◌==◌, if◌then◌else◌, List, [], ◌∷◌, ◌++◌, length, set, Option, Some, None}
-use Rattle.std.proofs.Common.{refl, sym, ap, subst, ◌∙◌, arith, length-append}
-use Rattle.std.proofs.lemmas.Bool.{cases_eq, eq-eqb, ne_eqb}
-use Rattle.rm_types.specs.declared.formats.Format.{Format}
-use Rattle.rm_model.specs.Pages.{row_length}
-use Rattle.rm_model.specs.Sums.{sum_below}
-use Rattle.rm_history.specs.declared.TheConstants.{BATCH_HEADER}
-use Rattle.rm_history.specs.Acts.{Act, Change, Undo, Finish, History, commits, ends, lists, marks, lsn_of}
+use Rattle.rm_core.specs.Below.{◌≡◌, ◌⊎◌, ℕ, zero, suc, ◌+◌, ◌<◌, ◌≤◌, ◌==◌, if◌then◌else◌, List, [], ◌∷◌, ◌++◌, length, Option, Some, None, Format, row_length}
+use Rattle.rm_core.specs.Below.{sum_below, BATCH_HEADER, Act, Change, Undo, Finish, History, commits, ends, lists, marks, lsn_of, pending_of, of_txn, without}
+use Rattle.rm_core.specs.Below.{all_pending, IsInOrder, IsFinished, HasRecord, compensate_record, bytes_of, entry_bytes, with_undo, undoing_bytes, ending_bytes}
+use Rattle.rm_core.specs.Below.{undo_bytes, category_after, undo_for, entry_of}
 use Rattle.rm_history.specs.Losers.{without_number, losers_of, IsAmong, AreRising}
-use Rattle.rm_history.specs.Pending.{pending_of, of_txn, without, all_pending}
-use Rattle.rm_history.specs.Rules.{IsInOrder}
-use Rattle.rm_history.specs.Transactions.{IsFinished, HasRecord}
-use Rattle.rm_history.specs.UndoBytes.{compensate_record, bytes_of, entry_bytes, with_undo, undoing_bytes, ending_bytes, undo_bytes}
-use Rattle.rm_history.specs.Undoing.{category_after, undo_for}
-use Rattle.rm_history.specs.Contents.{entry_of}
 use Rattle.rm_history.proofs.AllPending.{pending_of_all}
-use Rattle.rm_history.proofs.Chains.{last_is_unfinished}
-use Rattle.rm_history.proofs.Finished.{last_has_record}
 use Rattle.rm_history.proofs.Losers.{losers_are_unfinished}
-use Rattle.rm_model.proofs.Sums.{sum_below-less}
-use Rattle.rm_core.specs.Effects.{Effect, effect, logging, staged, after}
-use Rattle.rm_core.specs.Kept.{IsOver}
-use Rattle.rm_core.specs.Laws.{RoomIsKept}
-use Rattle.rm_core.specs.May.{May, IsSeated}
-use Rattle.rm_core.specs.Moves.{Setting, turns}
-use Rattle.rm_core.specs.Room.{CHANGE_BYTES, bytes_for, claims_at, claim_of, claims}
-use Rattle.rm_core.specs.Runs.{Opening, Machine, IsRun, moved}
-use Rattle.rm_core.specs.Sizes.{size_of, end_of, IsNext}
-use Rattle.rm_core.specs.State.{Stage, idle, settles, forces, finishes, compensates, Seat, State, seat_at}
-use Rattle.rm_core.specs.Turns.{Turn, skip, unname, begin, insert, alter, settle, commit, finish, prepare, compensate, end}
-use Rattle.rm_history.proofs.Elsewhere.{Elsewhere}
+use Rattle.rm_core.specs.Names.{Effect, effect, logging, staged, after, IsOver, RoomIsKept, May, IsSeated, Setting, turns, CHANGE_BYTES, bytes_for, claims_at}
+use Rattle.rm_core.specs.Names.{claim_of, claims, Opening, Machine, IsRun, moved, size_of, end_of, IsNext, Stage, idle, settles, forces, finishes, compensates}
+use Rattle.rm_core.specs.Names.{Seat, State, seat_at, Turn, skip, unname, begin, insert, alter, settle, commit, finish, prepare, compensate, end}
+use Rattle.rm_core.proofs.Names.{inl, inr, set, refl, sym, ap, subst, ◌∙◌, arith, length-append, cases_eq, eq-eqb, ne_eqb, last_is_unfinished, last_has_record}
+use Rattle.rm_core.proofs.Names.{sum_below-less, Elsewhere}
 use Rattle.rm_core.proofs.Along.{setting_of, seat_of, turned, Makes, run_in_order, kept_along, each_seat}
 use Rattle.rm_core.proofs.Moves.{moved-set}
 use Rattle.rm_core.proofs.Runs.{moves_run, run_known, run_kept}

@@ -1,20 +1,10 @@
 -- What holds at an opening and is kept by each move holds of each run.
-use Rattle.std.proofs.Common.{◌≡◌, inl, ℕ, zero, suc, List, [], ◌∷◌, length, replicate, refl, sym, ap, subst, ◌∙◌, arith}
-use Rattle.rm_types.specs.declared.formats.Format.{Format}
-use Rattle.rm_model.specs.Sums.{sum_below}
-use Rattle.rm_history.specs.Acts.{Listing, History}
-use Rattle.rm_history.proofs.Finished.{change_has_record}
-use Rattle.rm_model.proofs.Sums.{sum_below-zero, sum_below-same}
-use Rattle.rm_history.proofs.Prefixes.{legal_is_in_order}
-use Rattle.rm_history.proofs.UndoTheorem.{fits_in_order, entries_follow}
-use Rattle.rm_core.specs.Events.{Event}
-use Rattle.rm_core.specs.Kept.{Locked, Seated, Kept}
-use Rattle.rm_core.specs.Laws.{MovesRun, RunsAreKept}
-use Rattle.rm_core.specs.Locks.{Latches}
-use Rattle.rm_core.specs.Moves.{Setting, again, log_full, spent, MayAppend, appended, Move, turns, answered, appends, append_refused, rests, Moves}
-use Rattle.rm_core.specs.Room.{claim_of}
-use Rattle.rm_core.specs.Runs.{Opening, IsOpening, opened, Machine, Runs, IsRun, started, moved}
-use Rattle.rm_core.specs.State.{Seat, State, seat_at, empty_seat}
+use Rattle.rm_core.specs.Below.{◌≡◌, ℕ, zero, suc, List, [], ◌∷◌, length, replicate, Format, sum_below, Listing, History}
+use Rattle.rm_core.specs.Names.{Event, Locked, Seated, Kept, MovesRun, RunsAreKept, Latches, Setting, again, log_full, spent, MayAppend, appended, Move, turns}
+use Rattle.rm_core.specs.Names.{answered, appends, append_refused, rests, Moves, claim_of, Opening, IsOpening, opened, Machine, Runs, IsRun, started, moved}
+use Rattle.rm_core.specs.Names.{Seat, State, seat_at, empty_seat}
+use Rattle.rm_core.proofs.Names.{inl, refl, sym, ap, subst, ◌∙◌, arith, change_has_record, sum_below-zero, sum_below-same, legal_is_in_order, fits_in_order}
+use Rattle.rm_core.proofs.Names.{entries_follow}
 use Rattle.rm_core.proofs.Closing.{is_closed, refused_closes}
 use Rattle.rm_core.proofs.Keeping.{Known, turn_known}
 use Rattle.rm_core.proofs.Sizes.{next_above}

@@ -1,12 +1,7 @@
 -- A transaction's savepoints: each stands for the rows that its changes up to an LSN make.
-use Rattle.std.proofs.Common.{◌≡◌, inl, inr, ℕ, ◌<◌, ◌≤◌, cond, ltb, List, [], ◌∷◌, refl, sym, ap, ◌∙◌, arith}
-use Rattle.std.proofs.lemmas.Bool.{cases_eq, lt-ltb, le-ltb, eq-eqb, ne_eqb}
-use Rattle.rm_types.specs.declared.numbers.Rid.{Rid}
-use Rattle.rm_model.specs.Object.{Rows}
-use Rattle.rm_history.specs.Acts.{Change}
-use Rattle.rm_history.specs.Pending.{last_of}
-use Rattle.rm_history.specs.Rows.{applied}
-use Rattle.rm_core.specs.State.{Savepoint, dropped, upto, HasNumber, value_at}
+use Rattle.rm_core.specs.Below.{◌≡◌, ℕ, ◌<◌, ◌≤◌, List, [], ◌∷◌, Rid, Rows, Change, last_of, applied}
+use Rattle.rm_core.specs.Names.{Savepoint, dropped, upto, HasNumber, value_at}
+use Rattle.rm_core.proofs.Names.{inl, inr, cond, ltb, refl, sym, ap, ◌∙◌, arith, cases_eq, lt-ltb, le-ltb, eq-eqb, ne_eqb}
 
 -- the pending changes up to an LSN
 abbrev pub until : ℕ → List Change → List Change

@@ -1,12 +1,7 @@
 -- An insert is told that there is no space where each page was handled, and a read what the slot holds.
-use Rattle.std.proofs.Common.{◌≡◌, ℕ, suc, List, [], ◌∷◌, Some, refl, sym, subst}
-use Rattle.std.proofs.lemmas.Bool.{eq-eqb}
-use Rattle.rm_history.specs.Acts.{History}
-use Rattle.rm_events.specs.declared.events.Actor.TheVariants.{Session}
-use Rattle.rm_core.specs.Events.{Event}
-use Rattle.rm_core.specs.Outcomes.{no_space}
-use Rattle.rm_core.specs.Runs.{Machine, IsRun}
-use Rattle.rm_core.specs.Searches.{seens_of, EndsSearch, NoSpaceIsExact, ReadsAreExact}
+use Rattle.rm_core.specs.Below.{◌≡◌, ℕ, suc, List, [], ◌∷◌, Some, History, Session}
+use Rattle.rm_core.specs.Names.{Event, no_space, Machine, IsRun, seens_of, EndsSearch, NoSpaceIsExact, ReadsAreExact}
+use Rattle.rm_core.proofs.Names.{refl, sym, subst, eq-eqb}
 use Rattle.rm_core.proofs.Along.{setting_of, seat_of, kept_along}
 use Rattle.rm_core.proofs.Stages.{AllHandled, IsQuiet, rest_is_quiet, run_says, Told, turn_told, ends_told}
 

@@ -1,32 +1,15 @@
 -- Every run is serial: the committed transactions one after the other, in the order of their commits, and each unfinished one after them.
-use Rattle.std.proofs.Common.{◌≡◌, ◌⊎◌, inl, inr, ℕ, zero, suc, ◌+◌, ◌-◌, ◌<◌, eqb, List, [], ◌∷◌, ◌++◌, length}
-use Rattle.std.proofs.Common.{map, drop, Option, Some, None, refl, sym, ap, subst, subst₂, ◌∙◌, arith, one-add, length-append}
-use Rattle.std.proofs.lemmas.Bool.{cases_eq, cond_both}
-use Rattle.rm_types.specs.declared.formats.Format.{Format}
-use Rattle.rm_types.specs.declared.numbers.Rid.{Rid}
-use Rattle.rm_model.specs.Object.{Rows}
-use Rattle.rm_history.specs.Acts.{Act, Finish, History, commits, lists, marks}
-use Rattle.rm_history.specs.Pending.{pending_of}
-use Rattle.rm_history.specs.Rows.{applied, rows_of_log}
-use Rattle.rm_history.proofs.PendingSteps.{if_equal, if_different}
-use Rattle.rm_events.specs.declared.events.Actor.TheVariants.{Session, Flush, Clean, Checkpoint, Copy}
-use Rattle.rm_events.specs.declared.events.Actor.{Actor}
-use Rattle.rm_events.specs.declared.events.Seen.TheVariants as sees
-use Rattle.rm_events.specs.declared.events.Seen.{Seen}
-use Rattle.rm_core.specs.Effects.{logging, effect, after}
-use Rattle.rm_core.specs.Events.{Event, event_of}
-use Rattle.rm_core.specs.Laws.{RunsAreSerial}
-use Rattle.rm_core.specs.May.{May, IsSeated, Step}
-use Rattle.rm_core.specs.Moves.{Answer, again, log_full, spent, Answers, MayRest, Move, turns, answered, appends, append_refused, rests, Moves}
-use Rattle.rm_core.specs.Object.{single_after, Allowed, rows_through, AllAllowed}
-use Rattle.rm_core.specs.Orders.{onto, ops_of, ordered_with, order_of, IsAmong, commits_in}
-use Rattle.rm_core.specs.Outcomes.{Outcome, committed}
-use Rattle.rm_core.specs.Runs.{Opening, Machine, IsRun, moved}
-use Rattle.rm_core.specs.State.{idle, Seat, State, seat_at}
-use Rattle.rm_core.specs.Turns.{Turn, commit}
+use Rattle.rm_core.specs.Below.{◌≡◌, ◌⊎◌, ℕ, zero, suc, ◌+◌, ◌-◌, ◌<◌, List, [], ◌∷◌, ◌++◌, length, map, drop, Option, Some, None, Format, Rid, Rows, Act}
+use Rattle.rm_core.specs.Below.{Finish, History, commits, lists, marks, pending_of, applied, rows_of_log, Session, Flush, Clean, Checkpoint, Copy, Actor, Seen}
+use Rattle.rm_core.specs.Names.{logging, effect, after, Event, event_of, RunsAreSerial, May, IsSeated, Step, Answer, again, log_full, spent, Answers, MayRest}
+use Rattle.rm_core.specs.Names.{Move, turns, answered, appends, append_refused, rests, Moves, single_after, Allowed, rows_through, AllAllowed, onto, ops_of}
+use Rattle.rm_core.specs.Names.{ordered_with, order_of, IsAmong, commits_in, Outcome, committed, Opening, Machine, IsRun, moved, idle, Seat, State, seat_at}
+use Rattle.rm_core.specs.Names.{Turn, commit}
+use Rattle.rm_core.proofs.Names.{inl, inr, eqb, refl, sym, ap, subst, subst₂, ◌∙◌, arith, one-add, length-append, cases_eq, cond_both, if_equal, if_different}
 use Rattle.rm_core.proofs.Agreeing.{applied-same, view, Agreeing, IsQuiet, KeepsLocks, running_still, finished_logged, here, own, turn_agrees, closed_agrees}
 use Rattle.rm_core.proofs.Closing.{Closes, refused_closes}
 use Rattle.rm_core.proofs.Runs.{along, run_kept, txn_none}
+use Rattle.rm_events.specs.declared.events.Seen.TheVariants as sees
 
 -- ---- the order of commits
 

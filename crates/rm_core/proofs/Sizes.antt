@@ -1,13 +1,9 @@
 -- How many bytes records have, and what the LSN of the next one is above.
-use Rattle.std.proofs.Common.{◌≡◌, inl, inr, ℕ, ◌+◌, ◌<◌, ◌≤◌, [], ◌∷◌, length, refl, arith, length-append}
-use Rattle.rm_types.specs.declared.numbers.Rid.{Rid}
-use Rattle.rm_types.specs.declared.slots.Slot.{Slot}
-use Rattle.rm_types.specs.declared.slots.Slot.TheVariants.{Vacant, Row}
-use Rattle.rm_model.specs.Pages.{row_length}
-use Rattle.rm_record.specs.Records.{spelling, row_bytes}
+use Rattle.rm_core.specs.Below.{◌≡◌, ℕ, ◌+◌, ◌<◌, ◌≤◌, [], ◌∷◌, length, Rid, Slot, Vacant, Row, row_length, spelling, row_bytes, Act, Undo, Entry, Finish}
+use Rattle.rm_core.specs.Below.{History, changes, undoes, enters, commits, ends, lists, newest_lsn, marks}
 use Rattle.rm_record.proofs.SizeLaws.{length-checkpoint}
-use Rattle.rm_history.specs.Acts.{Act, Undo, Entry, Finish, History, changes, undoes, enters, commits, ends, lists, newest_lsn, marks}
-use Rattle.rm_core.specs.Sizes.{change_record, size_of, end_of, IsNext}
+use Rattle.rm_core.specs.Names.{change_record, size_of, end_of, IsNext}
+use Rattle.rm_core.proofs.Names.{inl, inr, refl, arith, length-append}
 
 pub entry_size : (e : Entry) → size_of (enters e) ≡ 10
 unfolding size_of

@@ -1,11 +1,8 @@
 -- What a session may still log is within what it owes, and a record of another transaction leaves it as it is.
-use Rattle.std.proofs.Common.{◌≡◌, inl, inr, ℕ, ◌≤◌, cond, eqb, List, length, refl, ap, arith}
-use Rattle.std.proofs.lemmas.Bool.{cases_eq, eq-eqb, ne_eqb}
-use Rattle.rm_history.specs.Acts.{Change, History}
-use Rattle.rm_history.specs.Pending.{pending_of}
-use Rattle.rm_model.proofs.Sums.{sum_below-less}
-use Rattle.rm_core.specs.Room.{bytes_for, owes_at, claims_at, owed_by, claim_of, owed, claims}
-use Rattle.rm_core.specs.State.{Stage, settles, forces, finishes, compensates, Seat, State, seat_at}
+use Rattle.rm_core.specs.Below.{◌≡◌, ℕ, ◌≤◌, List, length, Change, History, pending_of}
+use Rattle.rm_core.specs.Names.{bytes_for, owes_at, claims_at, owed_by, claim_of, owed, claims, Stage, settles, forces, finishes, compensates, Seat, State}
+use Rattle.rm_core.specs.Names.{seat_at}
+use Rattle.rm_core.proofs.Names.{inl, inr, cond, eqb, refl, ap, arith, cases_eq, eq-eqb, ne_eqb, sum_below-less}
 
 claims_owed : (stage : Stage) (bytes : ℕ) → claims_at stage bytes ≤ owes_at stage bytes
 claims_owed (settles outcome page) bytes = omega arith

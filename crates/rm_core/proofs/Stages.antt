@@ -1,44 +1,19 @@
 -- What a session's stage says of its turns, of the trace and of the log, along a run.
-use Rattle.std.proofs.Common.{◌≡◌, ◌⊎◌, inl, inr, ℕ, suc, ◌+◌, ◌*◌, ◌/◌, ◌<◌, ◌≤◌, Bool, true, false, List, [], ◌∷◌, length, Option, Some, None}
-use Rattle.std.proofs.Common.{refl, sym, ap, subst, ◌∙◌, arith}
-use Rattle.std.proofs.lemmas.Bool.{cases_eq, cases_lt, eq-eqb, ne_eqb}
-use Rattle.rm_types.specs.declared.formats.Format.{Format}
-use Rattle.rm_types.specs.declared.numbers.TheConstants.{BLOCK_PAGES}
-use Rattle.rm_types.specs.declared.slots.Slot.TheVariants.{Row, Vacant}
-use Rattle.rm_model.specs.Pages.{slot_at}
-use Rattle.rm_history.specs.Acts.{Act, Change, History, commits, lists, marks, lsn_of, newest_lsn}
-use Rattle.rm_history.specs.Contents.{page_of}
-use Rattle.rm_history.specs.Pending.{pending_of}
-use Rattle.rm_history.specs.Rules.{IsLast, IsInOrder}
-use Rattle.rm_history.specs.Undoing.{entry_for, undo_for}
-use Rattle.rm_history.proofs.Chains.{last_is_of}
-use Rattle.rm_history.proofs.PendingSteps.{pending-change}
-use Rattle.rm_history.proofs.Prefixes.{legal_is_in_order}
-use Rattle.rm_events.specs.declared.events.Actor.{Actor}
-use Rattle.rm_events.specs.declared.events.Actor.TheVariants.{Session, Flush, Clean, Checkpoint, Copy}
-use Rattle.rm_events.specs.declared.events.Seen.{Seen}
-use Rattle.rm_events.specs.declared.events.Seen.TheVariants as sees
-use Rattle.rm_core.specs.Durable.{IsLogged, IsDurable}
-use Rattle.rm_core.specs.Effects.{Effect, change_of, setting, entry_now, effect, logging, latched, staged, after}
-use Rattle.rm_core.specs.Events.{Event, tried_of, seen_of, outcome_of, txn_of, event_of}
-use Rattle.rm_core.specs.Kept.{Kept}
-use Rattle.rm_core.specs.Logging.{Writes, lsn_in, TellsChange}
-use Rattle.rm_core.specs.May.{Wants, May}
-use Rattle.rm_core.specs.Moves.{MayRest}
-use Rattle.rm_core.specs.Orders.{ordered_with, order_of, IsAmong}
-use Rattle.rm_core.specs.Outcomes.{Outcome, no_space, saw, committed}
-use Rattle.rm_core.specs.Runs.{Machine, IsRun}
-use Rattle.rm_core.specs.Searches.{of_session, seens_of, IsHandled, EndsSearch}
-use Rattle.rm_core.specs.Searching.{Scans, part_end}
-use Rattle.rm_core.specs.Sizes.{end_of}
-use Rattle.rm_core.specs.State.{Aim, undoes_all, returns, Stage, idle, seeks, wants, tries, reads, alters, settles, forces, finishes, rolls}
-use Rattle.rm_core.specs.State.{prepares, compensates, Seat, State, seat_at}
-use Rattle.rm_core.specs.Turns.{Turn, skip, unname, refuse, scan, scan_last, latch, try, try_last, insert, wait, fetch, alter, settled, settle, commit, force}
-use Rattle.rm_core.specs.Turns.{finish, prepared, prepare, compensate, end}
+use Rattle.rm_core.specs.Below.{◌≡◌, ◌⊎◌, ℕ, suc, ◌+◌, ◌*◌, ◌/◌, ◌<◌, ◌≤◌, Bool, true, false, List, [], ◌∷◌, length, Option, Some, None, Format, BLOCK_PAGES}
+use Rattle.rm_core.specs.Below.{Row, Vacant, slot_at, Act, Change, History, commits, lists, marks, lsn_of, newest_lsn, page_of, pending_of, IsLast, IsInOrder}
+use Rattle.rm_core.specs.Below.{entry_for, undo_for, Actor, Session, Flush, Clean, Checkpoint, Copy, Seen}
+use Rattle.rm_core.specs.Names.{IsLogged, IsDurable, Effect, change_of, setting, entry_now, effect, logging, latched, staged, after, Event, tried_of, seen_of}
+use Rattle.rm_core.specs.Names.{outcome_of, txn_of, event_of, Kept, Writes, lsn_in, TellsChange, Wants, May, MayRest, ordered_with, order_of, IsAmong, Outcome}
+use Rattle.rm_core.specs.Names.{no_space, saw, committed, Machine, IsRun, of_session, seens_of, IsHandled, EndsSearch, Scans, part_end, end_of, Aim, undoes_all}
+use Rattle.rm_core.specs.Names.{returns, Stage, idle, seeks, wants, tries, reads, alters, settles, forces, finishes, rolls, prepares, compensates, Seat, State}
+use Rattle.rm_core.specs.Names.{seat_at, Turn, skip, unname, refuse, scan, scan_last, latch, try, try_last, insert, wait, fetch, alter, settled, settle, commit}
+use Rattle.rm_core.specs.Names.{force, finish, prepared, prepare, compensate, end}
+use Rattle.rm_core.proofs.Names.{inl, inr, refl, sym, ap, subst, ◌∙◌, arith, cases_eq, cases_lt, eq-eqb, ne_eqb, last_is_of, pending-change, legal_is_in_order}
+use Rattle.rm_core.proofs.Names.{Elsewhere, elsewhere-none, elsewhere-change, elsewhere-undo, elsewhere-enter, elsewhere-commit, elsewhere-end}
 use Rattle.rm_core.proofs.Along.{setting_of, seat_of, append_event, rest_event, kept_along, each_seat}
-use Rattle.rm_history.proofs.Elsewhere.{Elsewhere, elsewhere-none, elsewhere-change, elsewhere-undo, elsewhere-enter, elsewhere-commit, elsewhere-end}
 use Rattle.rm_core.proofs.Runs.{seat_empty, run_kept}
 use Rattle.rm_core.proofs.Sizes.{size_some}
+use Rattle.rm_events.specs.declared.events.Seen.TheVariants as sees
 
 -- ---- what a stage says
 

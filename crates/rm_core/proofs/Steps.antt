@@ -1,23 +1,11 @@
 -- What each turn keeps that logs nothing and leaves the session its transaction.
-use Rattle.std.proofs.Common.{◌≡◌, ◌⊎◌, inl, inr, ℕ, ◌<◌, true, false, List, ◌∷◌, refl, sym, subst, ◌∙◌, None}
-use Rattle.rm_types.specs.declared.formats.Format.{Format}
-use Rattle.rm_types.specs.declared.numbers.Rid.{Rid}
-use Rattle.rm_types.specs.declared.slots.Slot.{Slot}
-use Rattle.rm_history.specs.Acts.{Change}
-use Rattle.rm_history.specs.Contents.{entry_of}
-use Rattle.rm_history.specs.Pending.{pending_of}
-use Rattle.rm_history.specs.Undoing.{category_after}
-use Rattle.rm_core.specs.Effects.{latched, with_grant}
-use Rattle.rm_core.specs.Kept.{target_at, Heads, IsOver, Locked, HeadOn, IsRight}
-use Rattle.rm_core.specs.Locks.{HasGrant, HoldsAlone, Latches, Looks}
-use Rattle.rm_core.specs.May.{Wants, MayLatch, IsReading}
-use Rattle.rm_core.specs.Outcomes.{Outcome}
-use Rattle.rm_core.specs.Searching.{Scans}
-use Rattle.rm_core.specs.State.{Aim, target_of, Stage, idle, seeks, wants, tries, reads, fetches, alters, sets, settles, forces, finishes, rolls}
-use Rattle.rm_core.specs.State.{prepares, compensates, Seat, State, seat_at}
+use Rattle.rm_core.specs.Below.{◌≡◌, ◌⊎◌, ℕ, ◌<◌, true, false, List, ◌∷◌, None, Format, Rid, Slot, Change, entry_of, pending_of, category_after}
+use Rattle.rm_core.specs.Names.{latched, with_grant, target_at, Heads, IsOver, Locked, HeadOn, IsRight, HasGrant, HoldsAlone, Latches, Looks, Wants, MayLatch}
+use Rattle.rm_core.specs.Names.{IsReading, Outcome, Scans, Aim, target_of, Stage, idle, seeks, wants, tries, reads, fetches, alters, sets, settles, forces}
+use Rattle.rm_core.specs.Names.{finishes, rolls, prepares, compensates, Seat, State, seat_at}
+use Rattle.rm_core.proofs.Names.{inl, inr, refl, sym, subst, ◌∙◌}
 use Rattle.rm_core.proofs.Grants.{no_locks, locks-joined, joined_any, joined_alone}
-use Rattle.rm_core.proofs.Quiet.{Turns}
-use Rattle.rm_core.proofs.Quiet.{Says, IsPlain, IsFree, free, LeftBy, live, fewer, quiet, goes_locked}
+use Rattle.rm_core.proofs.Quiet.{Turns, Says, IsPlain, IsFree, free, LeftBy, live, fewer, quiet, goes_locked}
 
 -- what its stage says of its last pending change
 pub heads_at : (format : Format) (s : State) (k : ℕ) (stage : Stage) → Turns format s k → (seat_at s.seats k).stage ≡ stage

@@ -1,19 +1,9 @@
 -- The trace of a run tells its log.
-use Rattle.std.proofs.Common.{inl, inr, ℕ, List, ◌∷◌, refl, sym, ap}
-use Rattle.rm_types.specs.declared.formats.Format.{Format}
-use Rattle.rm_types.specs.declared.slots.Slot.{Slot}
-use Rattle.rm_types.specs.declared.slots.Slot.TheVariants.{Row, Vacant}
-use Rattle.rm_history.specs.Acts.{Act, History, changes, undoes, enters, commits, ends, lists, marks}
-use Rattle.rm_history.specs.Undoing.{entry_for, undo_for}
-use Rattle.rm_events.specs.declared.events.Seen.{Seen}
-use Rattle.rm_core.specs.Effects.{change_of, setting, entry_now, after}
-use Rattle.rm_core.specs.Events.{Event}
-use Rattle.rm_core.specs.Laws.{TracesTellLogs}
-use Rattle.rm_core.specs.Logging.{TellsLog}
-use Rattle.rm_core.specs.May.{May}
-use Rattle.rm_core.specs.Searches.{seens_of}
-use Rattle.rm_core.specs.State.{Seat, State}
-use Rattle.rm_core.specs.Turns.{Turn, insert, alter, settled, settle, commit, prepare, compensate, end}
+use Rattle.rm_core.specs.Below.{ℕ, List, ◌∷◌, Format, Slot, Row, Vacant, Act, History, changes, undoes, enters, commits, ends, lists, marks, entry_for}
+use Rattle.rm_core.specs.Below.{undo_for, Seen}
+use Rattle.rm_core.specs.Names.{change_of, setting, entry_now, after, Event, TracesTellLogs, TellsLog, May, seens_of, Seat, State, Turn, insert, alter, settled}
+use Rattle.rm_core.specs.Names.{settle, commit, prepare, compensate, end}
+use Rattle.rm_core.proofs.Names.{inl, inr, refl, sym, ap}
 use Rattle.rm_core.proofs.Along.{setting_of, seat_of, kept_along}
 use Rattle.rm_core.proofs.Stages.{Says, event_at, IsQuiet, rest_is_quiet, run_says}
 

@@ -1,9 +1,7 @@
 -- No undo lacks space in its row's own page.
-use Rattle.std.proofs.Common.{◌+◌, arith}
-use Rattle.rm_history.specs.Acts.{newest_lsn}
-use Rattle.rm_history.proofs.Chains.{last_is_unfinished}
-use Rattle.rm_history.proofs.UndoTheorem.{undoes_are_in_order}
-use Rattle.rm_core.specs.Laws.{UndoHasSpace}
+use Rattle.rm_core.specs.Below.{◌+◌, newest_lsn}
+use Rattle.rm_core.specs.Names.{UndoHasSpace}
+use Rattle.rm_core.proofs.Names.{arith, last_is_unfinished, undoes_are_in_order}
 use Rattle.rm_core.proofs.Along.{run_in_order}
 
 -- what fits does not depend on the LSN of the compensation

@@ -1,9 +1,8 @@
 -- A transaction whose commit record is durable.
-use Rattle.std.specs.Prelude.{◌≡◌, ℕ, ◌<◌, List, [], ◌∷◌, ◌⊎◌}
-use Rattle.rm_history.specs.Acts.{Act, History, commits}
-use Rattle.rm_events.specs.declared.events.Seen.TheVariants as sees
+use Rattle.rm_core.specs.Below.{◌≡◌, ℕ, ◌<◌, List, [], ◌∷◌, ◌⊎◌, Act, History, commits}
 use Rattle.rm_core.specs.Events.{Event}
 use Rattle.rm_core.specs.Orders.{order_of, IsAmong}
+use Rattle.rm_events.specs.declared.events.Seen.TheVariants as sees
 
 -- the record is in the history
 abbrev pub IsLogged : History → Act → Type 0

@@ -1,22 +1,12 @@
 -- What a turn leaves: at most one record, the locks, the session's seat, and the next id.
-use Rattle.std.specs.Prelude.{ℕ, ◌+◌, Bool, true, false, List, [], ◌∷◌, Option, Some, None, slice_set}
-use Rattle.rm_types.specs.declared.formats.Format.{Format}
-use Rattle.rm_types.specs.declared.numbers.Rid.{Rid}
-use Rattle.rm_types.specs.declared.slots.Slot.{Slot}
-use Rattle.rm_types.specs.declared.slots.Slot.TheVariants.{Vacant, Row}
-use Rattle.rm_model.specs.Pages.{slot_at}
-use Rattle.rm_model.specs.Categories.{category_of}
-use Rattle.rm_history.specs.Acts.{Act, Change, Entry, History, changes, undoes, enters, commits, ends}
-use Rattle.rm_history.specs.Contents.{page_of}
-use Rattle.rm_history.specs.Pending.{pending_of, last_of}
-use Rattle.rm_history.specs.Needs.{need_of}
-use Rattle.rm_history.specs.Undoing.{entry_for, undo_for}
+use Rattle.rm_core.specs.Below.{ℕ, ◌+◌, Bool, true, false, List, [], ◌∷◌, Option, Some, None, slice_set, Format, Rid, Slot, Vacant, Row, slot_at, category_of}
+use Rattle.rm_core.specs.Below.{Act, Change, Entry, History, changes, undoes, enters, commits, ends, page_of, pending_of, last_of, need_of, entry_for, undo_for}
 use Rattle.rm_core.specs.Locks.{joined, released}
 use Rattle.rm_core.specs.Outcomes.{inserted, altered, died, aborted}
-use Rattle.rm_core.specs.State.{Savepoint, dropped, upto, undoes_all, returns, Stage, idle, seeks, wants, tries, reads, fetches, alters, sets, settles, forces, finishes}
-use Rattle.rm_core.specs.State.{rolls, prepares, compensates, Seat, empty_seat, Grant, State}
-use Rattle.rm_core.specs.Turns.{Turn, skip, unname, refuse, begin, scan, scan_last, latch, try, try_last, insert, lock, lock_alone, wait, die, fetch, miss, lack, alter}
-use Rattle.rm_core.specs.Turns.{settled, settle, commit, force, finish, abort, prepared, prepare, compensate, save, no_target, target, back, end}
+use Rattle.rm_core.specs.State.{Savepoint, dropped, upto, undoes_all, returns, Stage, idle, seeks, wants, tries, reads, fetches, alters, sets, settles, forces}
+use Rattle.rm_core.specs.State.{finishes, rolls, prepares, compensates, Seat, empty_seat, Grant, State}
+use Rattle.rm_core.specs.Turns.{Turn, skip, unname, refuse, begin, scan, scan_last, latch, try, try_last, insert, lock, lock_alone, wait, die, fetch, miss}
+use Rattle.rm_core.specs.Turns.{lack, alter, settled, settle, commit, force, finish, abort, prepared, prepare, compensate, save, no_target, target, back, end}
 
 -- the change record of a transaction that sets a slot
 abbrev pub change_of : History → ℕ → Rid → Slot → Slot → ℕ → Change

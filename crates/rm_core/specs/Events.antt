@@ -1,19 +1,10 @@
 -- What a turn's event tells.
-use Rattle.std.specs.Prelude.{ℕ, suc, false, length, Option, Some, None}
-use Rattle.rm_types.specs.declared.numbers.Rid.{Rid}
-use Rattle.rm_model.specs.Pages.{used}
-use Rattle.rm_history.specs.Contents.{page_of}
-use Rattle.rm_history.specs.Needs.{need_of}
-use Rattle.rm_history.specs.Room.{others_need}
-use Rattle.rm_events.specs.declared.events.Actor.{Actor}
-use Rattle.rm_events.specs.declared.events.Actor.TheVariants.{Session}
-use Rattle.rm_events.specs.declared.events.Seen.{Seen}
-use Rattle.rm_events.specs.declared.events.Seen.TheVariants as sees
-use Rattle.rm_core.specs.Outcomes.{Outcome, began, no_space, saw, missed, full, saved, no_save, back_to, committed, skipped}
-use Rattle.rm_core.specs.Outcomes.{refused, unbound}
+use Rattle.rm_core.specs.Below.{ℕ, suc, false, length, Option, Some, None, Rid, used, page_of, need_of, others_need, Actor, Session, Seen}
+use Rattle.rm_core.specs.Outcomes.{Outcome, began, no_space, saw, missed, full, saved, no_save, back_to, committed, skipped, refused, unbound}
 use Rattle.rm_core.specs.State.{Seat, State, seat_at}
-use Rattle.rm_core.specs.Turns.{Turn, skip, unname, refuse, begin, scan, scan_last, latch, try, try_last, insert, lock, lock_alone, wait, die, fetch, miss, lack, alter}
-use Rattle.rm_core.specs.Turns.{settled, settle, commit, force, finish, abort, prepared, prepare, compensate, end, save, no_target, target, back}
+use Rattle.rm_core.specs.Turns.{Turn, skip, unname, refuse, begin, scan, scan_last, latch, try, try_last, insert, lock, lock_alone, wait, die, fetch, miss}
+use Rattle.rm_core.specs.Turns.{lack, alter, settled, settle, commit, force, finish, abort, prepared, prepare, compensate, end, save, no_target, target, back}
+use Rattle.rm_events.specs.declared.events.Seen.TheVariants as sees
 
 pub record Event : Type 0 where
   pub actor : Actor

@@ -1,16 +1,9 @@
 -- What every turn of the core keeps.
-use Rattle.std.specs.Prelude.{◌≡◌, ℕ, ◌<◌, List, ◌∷◌, ◌⊎◌}
-use Rattle.rm_types.specs.declared.formats.Format.{Format}
-use Rattle.rm_types.specs.declared.numbers.Rid.{Rid}
-use Rattle.rm_history.specs.Acts.{Change, History}
-use Rattle.rm_model.specs.Categories.{category_of}
-use Rattle.rm_history.specs.Contents.{page_of, entry_of}
-use Rattle.rm_history.specs.Pending.{pending_of}
-use Rattle.rm_history.specs.Transactions.{IsFinished, HasRecord, HasChange}
-use Rattle.rm_history.specs.Legal.{IsLegal}
-use Rattle.rm_history.specs.Undoing.{category_after}
+use Rattle.rm_core.specs.Below.{◌≡◌, ℕ, ◌<◌, List, ◌∷◌, ◌⊎◌, Format, Rid, Change, History, category_of, page_of, entry_of, pending_of, IsFinished, HasRecord}
+use Rattle.rm_core.specs.Below.{HasChange, IsLegal, category_after}
 use Rattle.rm_core.specs.Locks.{HasGrant, HoldsAlone, Latches, Looks}
-use Rattle.rm_core.specs.State.{target_of, Stage, idle, reads, fetches, alters, sets, settles, forces, finishes, prepares, compensates, Seat, Grant, State, seat_at}
+use Rattle.rm_core.specs.State.{target_of, Stage, idle, reads, fetches, alters, sets, settles, forces, finishes, prepares, compensates, Seat, Grant, State}
+use Rattle.rm_core.specs.State.{seat_at}
 
 -- the commit record is logged
 abbrev pub IsOver : Stage → Type 0

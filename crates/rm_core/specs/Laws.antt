@@ -1,13 +1,5 @@
 -- What holds of each run of the machine.
-use Rattle.std.specs.Prelude.{◌≡◌, ℕ, ◌+◌, ◌≤◌, [], ◌∷◌, ◌++◌}
-use Rattle.rm_types.specs.declared.numbers.Rid.{Rid}
-use Rattle.rm_history.specs.declared.TheConstants.{BATCH_HEADER}
-use Rattle.rm_history.specs.Acts.{Change, History, undoes}
-use Rattle.rm_history.specs.Rows.{rows_of_log}
-use Rattle.rm_history.specs.Rules.{IsLast}
-use Rattle.rm_history.specs.Needs.{Fits}
-use Rattle.rm_history.specs.UndoBytes.{undo_bytes}
-use Rattle.rm_history.specs.Undoing.{undo_for}
+use Rattle.rm_core.specs.Below.{◌≡◌, ℕ, ◌+◌, ◌≤◌, [], ◌∷◌, ◌++◌, Rid, BATCH_HEADER, Change, History, undoes, rows_of_log, IsLast, Fits, undo_bytes, undo_for}
 use Rattle.rm_core.specs.Durable.{IsDurable}
 use Rattle.rm_core.specs.Kept.{IsOver, Kept}
 use Rattle.rm_core.specs.Logging.{TellsLog}

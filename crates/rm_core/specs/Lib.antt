@@ -1,3 +1,4 @@
+pub mod Below
 pub mod Sizes
 pub mod Outcomes
 pub mod State
@@ -17,3 +18,4 @@ pub mod Logging
 pub mod Searches
 pub mod Durable
 pub mod Laws
+pub mod Names

@@ -1,11 +1,7 @@
 -- The row locks, and the latches that stages hold.
-use Rattle.std.specs.Prelude.{◌≡◌, ℕ, ◌≤◌, ◌<◌, IsTrue, ◌==◌, ◌&&◌, if◌then◌else◌, Bool, true, false, List, [], ◌∷◌, ◌⊎◌}
-use Rattle.rm_types.specs.declared.numbers.Rid.{Rid}
-use Rattle.rm_types.specs.declared.numbers.TheConstants.{MAX_SLOT}
-use Rattle.rm_model.specs.Object.{is_same_place}
-use Rattle.rm_events.specs.declared.operations.Op.{Op}
-use Rattle.rm_events.specs.declared.operations.Op.TheVariants as ops
+use Rattle.rm_core.specs.Below.{◌≡◌, ℕ, ◌≤◌, ◌<◌, IsTrue, ◌==◌, ◌&&◌, if◌then◌else◌, Bool, true, false, List, [], ◌∷◌, ◌⊎◌, Rid, MAX_SLOT, is_same_place, Op}
 use Rattle.rm_core.specs.State.{Stage, tries, fetches, sets, settles, prepares, compensates, Grant}
+use Rattle.rm_events.specs.declared.operations.Op.TheVariants as ops
 
 -- the transaction has a lock on the row id; an exclusive one
 abbrev pub HasGrant : List Grant → ℕ → Rid → Type 0

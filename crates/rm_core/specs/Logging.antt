@@ -1,16 +1,10 @@
 -- A trace tells its log: each record but what a change leaves in its slot, which the reply tells, and a checkpoint's lists.
-use Rattle.std.specs.Prelude.{◌≡◌, ℕ, List, [], ◌∷◌, Option, Some, None, ◌⊎◌}
-use Rattle.rm_types.specs.declared.formats.Format.{Format}
-use Rattle.rm_types.specs.declared.slots.Slot.{Slot}
-use Rattle.rm_types.specs.declared.slots.Slot.TheVariants.{Row}
-use Rattle.rm_history.specs.Acts.{Act, Change, Listing, History, changes, undoes, enters, commits, ends, lists, marks}
-use Rattle.rm_history.specs.Rules.{IsLast}
-use Rattle.rm_history.specs.Undoing.{entry_for, undo_for}
-use Rattle.rm_events.specs.declared.events.Seen.{Seen}
-use Rattle.rm_events.specs.declared.events.Seen.TheVariants as sees
+use Rattle.rm_core.specs.Below.{◌≡◌, ℕ, List, [], ◌∷◌, Option, Some, None, ◌⊎◌, Format, Slot, Row, Act, Change, Listing, History, changes, undoes, enters}
+use Rattle.rm_core.specs.Below.{commits, ends, lists, marks, IsLast, entry_for, undo_for, Seen}
 use Rattle.rm_core.specs.Effects.{setting, entry_now}
 use Rattle.rm_core.specs.Events.{Event}
 use Rattle.rm_core.specs.Outcomes.{Outcome, inserted, altered}
+use Rattle.rm_events.specs.declared.events.Seen.TheVariants as sees
 
 -- the record that an event tells, after these
 abbrev pub IsRecord : Format → History → ℕ → Seen → Option Outcome → Act → Type 0

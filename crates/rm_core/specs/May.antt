@@ -1,28 +1,16 @@
 -- Which turns a session may make, and one step of the machine.
-use Rattle.std.specs.Prelude.{◌≡◌, ℕ, ◌+◌, ◌-◌, ◌^◌, ◌<◌, ◌≤◌, Bool, List, [], ◌∷◌, length}
-use Rattle.rm_types.specs.declared.formats.Format.{Format}
-use Rattle.rm_types.specs.declared.numbers.Rid.{Rid}
-use Rattle.rm_types.specs.declared.slots.Slot.{Slot}
-use Rattle.rm_types.specs.declared.slots.Slot.TheVariants.{Vacant, Row}
-use Rattle.rm_model.specs.Pages.{slot_at}
-use Rattle.rm_model.specs.Categories.{category_of}
-use Rattle.rm_history.specs.declared.TheConstants.{BATCH_HEADER}
-use Rattle.rm_history.specs.Acts.{Change, History}
-use Rattle.rm_history.specs.Contents.{page_of, entry_of}
-use Rattle.rm_history.specs.Pending.{pending_of}
-use Rattle.rm_history.specs.Room.{unreserved, GrowthFits}
-use Rattle.rm_history.specs.Undoing.{category_after}
-use Rattle.rm_events.specs.declared.operations.Op.{Op}
-use Rattle.rm_events.specs.declared.operations.Op.TheVariants as ops
+use Rattle.rm_core.specs.Below.{◌≡◌, ℕ, ◌+◌, ◌-◌, ◌^◌, ◌<◌, ◌≤◌, Bool, List, [], ◌∷◌, length, Format, Rid, Slot, Vacant, Row, slot_at, category_of}
+use Rattle.rm_core.specs.Below.{BATCH_HEADER, Change, History, page_of, entry_of, pending_of, unreserved, GrowthFits, category_after, Op}
 use Rattle.rm_core.specs.Effects.{after}
 use Rattle.rm_core.specs.Locks.{HasGrant, HoldsAlone, Blocks, IsInside, Asks, Latches, Looks}
 use Rattle.rm_core.specs.Outcomes.{Outcome}
 use Rattle.rm_core.specs.Searching.{MayScan, MayEndScan, MayTry, MayInsert}
 use Rattle.rm_core.specs.Sizes.{end_of, IsNext}
-use Rattle.rm_core.specs.State.{HasNumber, value_at, Aim, undoes_all, returns, target_of, Stage, idle, wants, reads, fetches, alters, sets, settles, forces, finishes}
-use Rattle.rm_core.specs.State.{rolls, prepares, compensates, Seat, State, seat_at}
-use Rattle.rm_core.specs.Turns.{Turn, skip, unname, refuse, begin, scan, scan_last, latch, try, try_last, insert, lock, lock_alone, wait, die, fetch, miss, lack, alter}
-use Rattle.rm_core.specs.Turns.{settled, settle, commit, force, finish, abort, prepared, prepare, compensate, save, no_target, target, back, end}
+use Rattle.rm_core.specs.State.{HasNumber, value_at, Aim, undoes_all, returns, target_of, Stage, idle, wants, reads, fetches, alters, sets, settles, forces}
+use Rattle.rm_core.specs.State.{finishes, rolls, prepares, compensates, Seat, State, seat_at}
+use Rattle.rm_core.specs.Turns.{Turn, skip, unname, refuse, begin, scan, scan_last, latch, try, try_last, insert, lock, lock_alone, wait, die, fetch, miss}
+use Rattle.rm_core.specs.Turns.{lack, alter, settled, settle, commit, force, finish, abort, prepared, prepare, compensate, save, no_target, target, back, end}
+use Rattle.rm_events.specs.declared.operations.Op.TheVariants as ops
 
 -- ---- latches
 

@@ -1,13 +1,6 @@
 -- The moves of the machine: turns of sessions, turns of the background, and turns that are answered without being made.
-use Rattle.std.specs.Prelude.{◌≡◌, ℕ, ◌+◌, ◌^◌, ◌<◌, ◌≤◌, ◌∷◌, length, ◌⊎◌}
-use Rattle.rm_types.specs.declared.formats.Format.{Format}
-use Rattle.rm_history.specs.declared.TheConstants.{BATCH_HEADER}
-use Rattle.rm_history.specs.Acts.{Listing, lists, marks}
-use Rattle.rm_history.specs.Rules.{MayList}
-use Rattle.rm_events.specs.declared.events.Actor.{Actor}
-use Rattle.rm_events.specs.declared.events.Actor.TheVariants.{Flush, Clean, Checkpoint, Copy}
-use Rattle.rm_events.specs.declared.events.Seen.{Seen}
-use Rattle.rm_events.specs.declared.events.Seen.TheVariants as sees
+use Rattle.rm_core.specs.Below.{◌≡◌, ℕ, ◌+◌, ◌^◌, ◌<◌, ◌≤◌, ◌∷◌, length, ◌⊎◌, Format, BATCH_HEADER, Listing, lists, marks, MayList, Actor, Flush, Clean}
+use Rattle.rm_core.specs.Below.{Checkpoint, Copy, Seen}
 use Rattle.rm_core.specs.Effects.{after, goes_to, staged, with_effect}
 use Rattle.rm_core.specs.Locks.{Latches, Looks}
 use Rattle.rm_core.specs.May.{IsSeated, IsReading, May, Step, Wants}
@@ -15,6 +8,7 @@ use Rattle.rm_core.specs.Room.{CHANGE_COST, HasRoomFor, owed}
 use Rattle.rm_core.specs.Sizes.{end_of, IsNext}
 use Rattle.rm_core.specs.State.{idle, State, seat_at}
 use Rattle.rm_core.specs.Turns.{Turn, begin, insert, alter}
+use Rattle.rm_events.specs.declared.events.Seen.TheVariants as sees
 
 -- what does not change while the machine runs: the format, the number of pages, and the limit of the log
 pub record Setting : Type 0 where

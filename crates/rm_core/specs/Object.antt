@@ -1,15 +1,10 @@
 -- The one-thread object: what one user alone of a file may be told, and what the rows and savepoints are then.
-use Rattle.std.specs.Prelude.{◌≡◌, ℕ, Bool, List, [], ◌∷◌, None}
-use Rattle.rm_types.specs.declared.numbers.Rid.{Rid}
-use Rattle.rm_types.specs.declared.slots.Slot.TheVariants.{Row}
-use Rattle.rm_model.specs.Pages.{row_of}
-use Rattle.rm_model.specs.Object.{Rows}
-use Rattle.rm_history.specs.Rows.{with_slot}
-use Rattle.rm_events.specs.declared.operations.Op.TheVariants as ops
+use Rattle.rm_core.specs.Below.{◌≡◌, ℕ, Bool, List, [], ◌∷◌, None, Rid, Row, row_of, Rows, with_slot}
 use Rattle.rm_core.specs.Locks.{Asks, IsInside}
-use Rattle.rm_core.specs.Outcomes.{Outcome, began, inserted, no_space, saw, altered, missed, full, saved, no_save, back_to, committed, aborted, died, skipped, refused}
-use Rattle.rm_core.specs.Outcomes.{unbound}
+use Rattle.rm_core.specs.Outcomes.{Outcome, began, inserted, no_space, saw, altered, missed, full, saved, no_save, back_to, committed, aborted, died, skipped}
+use Rattle.rm_core.specs.Outcomes.{refused, unbound}
 use Rattle.rm_core.specs.State.{Savepoint, dropped, upto, HasNumber, value_at}
+use Rattle.rm_events.specs.declared.operations.Op.TheVariants as ops
 
 -- the rows, and the savepoints, the newest first, each with its rows
 pub record Single : Type 0 where

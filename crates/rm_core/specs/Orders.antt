@@ -1,12 +1,10 @@
 -- The operations of each transaction, and the transactions in the order of their commits, as a trace tells them.
-use Rattle.std.specs.Prelude.{◌≡◌, ℕ, ◌-◌, ◌+◌, ◌==◌, if◌then◌else◌, List, [], ◌∷◌, length, drop, map, Option, Some, None, ◌⊎◌}
-use Rattle.rm_model.specs.Object.{Rows}
-use Rattle.rm_history.specs.Acts.{History, changes, undoes, enters, commits, ends, marks}
-use Rattle.rm_events.specs.declared.events.Seen.{Seen}
-use Rattle.rm_events.specs.declared.events.Seen.TheVariants as sees
+use Rattle.rm_core.specs.Below.{◌≡◌, ℕ, ◌-◌, ◌+◌, ◌==◌, if◌then◌else◌, List, [], ◌∷◌, length, drop, map, Option, Some, None, ◌⊎◌, Rows, History, changes}
+use Rattle.rm_core.specs.Below.{undoes, enters, commits, ends, marks, Seen}
 use Rattle.rm_core.specs.Events.{Event}
 use Rattle.rm_core.specs.Object.{rows_through, AllAllowed}
 use Rattle.rm_core.specs.Outcomes.{Outcome, committed}
+use Rattle.rm_events.specs.declared.events.Seen.TheVariants as sees
 
 -- one more, where there is one
 abbrev pub onto : {A : Type 0} → Option A → List A → List A

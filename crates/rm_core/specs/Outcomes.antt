@@ -1,12 +1,8 @@
 -- A finished operation and its reply as one value, so that there is none but the pairs that come.
-use Rattle.std.specs.Prelude.{ℕ, List}
-use Rattle.rm_types.specs.declared.numbers.Rid.{Rid}
-use Rattle.rm_types.specs.declared.slots.Slot.{Slot}
-use Rattle.rm_types.specs.declared.slots.Slot.TheVariants as slot
+use Rattle.rm_core.specs.Below.{ℕ, List, Rid, Slot, Op, Reply}
 use Rattle.rm_events.specs.declared.operations.Finished.{Finished}
-use Rattle.rm_events.specs.declared.operations.Op.{Op}
+use Rattle.rm_types.specs.declared.slots.Slot.TheVariants as slot
 use Rattle.rm_events.specs.declared.operations.Op.TheVariants as ops
-use Rattle.rm_events.specs.declared.operations.Reply.{Reply}
 use Rattle.rm_events.specs.declared.operations.Reply.TheVariants as replies
 
 pub data Outcome : Type 0 where

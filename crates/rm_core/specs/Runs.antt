@@ -1,15 +1,11 @@
 -- Runs of the machine from an opening, and the events that they leave.
-use Rattle.std.specs.Prelude.{◌≡◌, ℕ, ◌^◌, ◌<◌, ◌≤◌, List, [], ◌∷◌, None, replicate}
-use Rattle.rm_history.specs.Acts.{History}
-use Rattle.rm_history.specs.Legal.{IsLegal}
-use Rattle.rm_history.specs.Transactions.{IsFinished, HasRecord}
-use Rattle.rm_events.specs.declared.events.Actor.TheVariants.{Checkpoint}
-use Rattle.rm_events.specs.declared.events.Seen.TheVariants as sees
+use Rattle.rm_core.specs.Below.{◌≡◌, ℕ, ◌^◌, ◌<◌, ◌≤◌, List, [], ◌∷◌, None, replicate, History, IsLegal, IsFinished, HasRecord, Checkpoint}
 use Rattle.rm_core.specs.Events.{Event, event_of}
 use Rattle.rm_core.specs.Kept.{IsRight}
 use Rattle.rm_core.specs.Moves.{Setting, Move, turns, answered, appends, append_refused, rests, Moves}
 use Rattle.rm_core.specs.Sizes.{end_of}
 use Rattle.rm_core.specs.State.{State, empty_seat}
+use Rattle.rm_events.specs.declared.events.Seen.TheVariants as sees
 
 -- what a machine starts from: the log that restart left, how many sessions there are, and the next id
 pub record Opening : Type 0 where

@@ -1,14 +1,6 @@
 -- Which pages an insert has handled before it is told that there is no space.
-use Rattle.std.specs.Prelude.{◌≡◌, ℕ, suc, ◌+◌, ◌≤◌, ◌<◌, ◌==◌, if◌then◌else◌, Bool, false, List, [], ◌∷◌, length, Some, ◌⊎◌}
-use Rattle.rm_types.specs.declared.numbers.Rid.{Rid}
-use Rattle.rm_types.specs.declared.slots.Slot.{Slot}
-use Rattle.rm_model.specs.Pages.{slot_at}
-use Rattle.rm_history.specs.Contents.{page_of}
-use Rattle.rm_history.specs.Room.{RowFits}
-use Rattle.rm_events.specs.declared.events.Actor.{Actor}
-use Rattle.rm_events.specs.declared.events.Actor.TheVariants.{Session}
-use Rattle.rm_events.specs.declared.events.Seen.{Seen}
-use Rattle.rm_events.specs.declared.events.Seen.TheVariants as sees
+use Rattle.rm_core.specs.Below.{◌≡◌, ℕ, suc, ◌+◌, ◌≤◌, ◌<◌, ◌==◌, if◌then◌else◌, Bool, false, List, [], ◌∷◌, length, Some, ◌⊎◌, Rid, Slot, slot_at, page_of}
+use Rattle.rm_core.specs.Below.{RowFits, Actor, Session, Seen}
 use Rattle.rm_core.specs.Events.{Event}
 use Rattle.rm_core.specs.Moves.{turns, Moves}
 use Rattle.rm_core.specs.Outcomes.{no_space, saw}
@@ -16,6 +8,7 @@ use Rattle.rm_core.specs.Runs.{Machine, IsRun}
 use Rattle.rm_core.specs.Searching.{IsPassed}
 use Rattle.rm_core.specs.State.{State, seat_at}
 use Rattle.rm_core.specs.Turns.{scan, scan_last, try, try_last}
+use Rattle.rm_events.specs.declared.events.Seen.TheVariants as sees
 
 -- one value where the actor is that session, and else another
 abbrev pub of_session : {A : Type 0} → Actor → ℕ → A → A → A

@@ -1,12 +1,6 @@
 -- When an insert may search, and when it finds its place.
-use Rattle.std.specs.Prelude.{◌≡◌, ℕ, ◌+◌, ◌*◌, ◌/◌, ◌<◌, ◌≤◌, min, Bool, true, false, List, length}
-use Rattle.rm_types.specs.declared.formats.Format.{Format}
-use Rattle.rm_types.specs.declared.numbers.Rid.{Rid}
-use Rattle.rm_types.specs.declared.numbers.TheConstants.{BLOCK_PAGES}
-use Rattle.rm_model.specs.Categories.{IsExcluded}
-use Rattle.rm_history.specs.Acts.{History}
-use Rattle.rm_history.specs.Contents.{page_of, entry_of}
-use Rattle.rm_history.specs.Room.{IsSlotForRow, RowFits}
+use Rattle.rm_core.specs.Below.{◌≡◌, ℕ, ◌+◌, ◌*◌, ◌/◌, ◌<◌, ◌≤◌, min, Bool, true, false, List, length, Format, Rid, BLOCK_PAGES, IsExcluded, History, page_of}
+use Rattle.rm_core.specs.Below.{entry_of, IsSlotForRow, RowFits}
 use Rattle.rm_core.specs.Locks.{HasGrant}
 use Rattle.rm_core.specs.Sizes.{IsNext}
 use Rattle.rm_core.specs.State.{Stage, idle, seeks, tries, Seat, Grant, State}

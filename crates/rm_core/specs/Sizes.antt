@@ -1,13 +1,8 @@
 -- The records of a history, their bytes, and the LSN that comes next.
-use Rattle.std.specs.Prelude.{◌≡◌, ℕ, ◌+◌, [], ◌∷◌, length, ◌⊎◌}
-use Rattle.rm_types.specs.declared.numbers.Rid.{Rid}
-use Rattle.rm_types.specs.declared.slots.Slot.{Slot}
-use Rattle.rm_types.specs.declared.slots.Slot.TheVariants.{Vacant, Row}
+use Rattle.rm_core.specs.Below.{◌≡◌, ℕ, ◌+◌, [], ◌∷◌, length, ◌⊎◌, Rid, Slot, Vacant, Row, spelling, BATCH_HEADER, Act, History, changes, undoes, enters}
+use Rattle.rm_core.specs.Below.{commits, ends, lists, lsn_of, marks}
 use Rattle.rm_record.specs.declared.records.LogRecord.{LogRecord}
 use Rattle.rm_record.specs.declared.records.LogRecord.TheVariants.{Insert, Delete, Update, Compensate, Inventory, Commit, End, Checkpoint}
-use Rattle.rm_record.specs.Records.{spelling}
-use Rattle.rm_history.specs.declared.TheConstants.{BATCH_HEADER}
-use Rattle.rm_history.specs.Acts.{Act, History, changes, undoes, enters, commits, ends, lists, lsn_of, marks}
 
 -- the record of a change, by what the slot held and holds; of none where it held and holds no row
 abbrev pub change_record : ℕ → ℕ → Rid → ℕ → Slot → Slot → LogRecord

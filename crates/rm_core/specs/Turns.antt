@@ -1,9 +1,5 @@
 -- The turns of a session, each with all that is free in it.
-use Rattle.std.specs.Prelude.{ℕ, Bool, List}
-use Rattle.rm_types.specs.declared.numbers.Rid.{Rid}
-use Rattle.rm_types.specs.declared.slots.Slot.{Slot}
-use Rattle.rm_history.specs.Acts.{Change}
-use Rattle.rm_events.specs.declared.operations.Op.{Op}
+use Rattle.rm_core.specs.Below.{ℕ, Bool, List, Rid, Slot, Change, Op}
 use Rattle.rm_core.specs.Outcomes.{Outcome}
 use Rattle.rm_core.specs.State.{Aim}
 

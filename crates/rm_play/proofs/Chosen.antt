@@ -1,46 +1,22 @@
 -- The chosen move is the session's for the operation, and a move of the machine.
-use Rattle.std.proofs.Common.{◌≡◌, inl, inr, ℕ, zero, suc, option_map, Option, Some, None, ◌+◌, ◌-◌, ◌*◌, ◌^◌, ◌<◌, ◌≤◌, leb, cond, Bool, true, false, List, [], ◌∷◌, length, refl, sym, ap, subst, ◌∙◌, arith}
-use Rattle.std.proofs.lemmas.Bool.Decides.{Decides-and, Decides-eqb, Decides-ltb}
-use Rattle.rm_types.specs.Formats.{category_bytes}
-use Rattle.rm_types.specs.declared.numbers.Rid.{Rid}
-use Rattle.rm_types.specs.declared.numbers.TheConstants.{MAX_SLOT}
-use Rattle.rm_types.specs.declared.slots.Slot.{Slot}
-use Rattle.rm_types.specs.declared.slots.Slot.TheVariants.{Vacant, Row}
-use Rattle.rm_types.specs.declared.slots.TheConstants.{CAPACITY}
-use Rattle.rm_model.specs.Pages.{slot_at}
-use Rattle.rm_model.specs.Categories.{category_of}
-use Rattle.rm_history.specs.Acts.{Change, History}
-use Rattle.rm_history.specs.Contents.{page_of, entry_of}
-use Rattle.rm_history.specs.Pending.{pending_of, last_of, AreFalling}
-use Rattle.rm_history.specs.Undoing.{category_after}
-use Rattle.rm_history.proofs.FallingLsns.{pending_falls}
-use Rattle.rm_history.proofs.Prefixes.{legal_is_in_order}
-use Rattle.rm_events.specs.declared.operations.Op.{Op}
-use Rattle.rm_events.specs.declared.operations.Op.TheVariants as ops
-use Rattle.rm_play.specs.Choices.{TakesAt, MayTake, IsMoveFor}
-use Rattle.rm_core.specs.Effects.{after}
-use Rattle.rm_core.specs.Kept.{Kept}
-use Rattle.rm_core.specs.Locks.{Blocks, IsInside, Asks}
-use Rattle.rm_core.specs.May.{Wants, IsBlockedBy, SlotFits, IsSeated, May}
-use Rattle.rm_core.specs.Moves.{Setting, log_full, Bars, IsBarredBy, Lacks, Move, turns, answered, Moves}
-use Rattle.rm_core.specs.Room.{HasRoomFor}
-use Rattle.rm_core.specs.Runs.{IsRun}
-use Rattle.rm_play.specs.Words.{Progress, wanted, ByActor}
-use Rattle.rm_events.specs.declared.events.Actor.{Actor}
-use Rattle.rm_events.specs.declared.events.Actor.TheVariants.{Session, Flush}
-use Rattle.rm_play.specs.Playing.{offset_after, move_at, after_move, IsActor, TurnsAreMade}
-use Rattle.rm_core.specs.Searching.{IsPassed, MayTry, Scans, part_end}
-use Rattle.rm_core.specs.Sizes.{IsNext}
-use Rattle.rm_core.specs.State.{Aim, undoes_all, returns, target_of, Stage, idle, seeks, wants, tries, reads, fetches, alters, sets, settles, forces, finishes}
-use Rattle.rm_core.specs.State.{rolls, prepares, compensates, Seat, State, seat_at}
-use Rattle.rm_core.specs.Turns.{Turn, begin, scan, scan_last, latch, insert, alter}
+use Rattle.rm_core.specs.Below.{◌≡◌, ℕ, zero, suc, option_map, Option, Some, None, ◌+◌, ◌-◌, ◌*◌, ◌^◌, ◌<◌, ◌≤◌, Bool, true, false, List, [], ◌∷◌, length}
+use Rattle.rm_core.specs.Below.{category_bytes, Rid, MAX_SLOT, Slot, Vacant, Row, CAPACITY, slot_at, category_of, Change, History, page_of, entry_of}
+use Rattle.rm_core.specs.Below.{pending_of, last_of, AreFalling, category_after, Op, Actor, Session, Flush}
+use Rattle.rm_core.specs.Names.{after, Kept, Blocks, IsInside, Asks, Wants, IsBlockedBy, SlotFits, IsSeated, May, Setting, log_full, Bars, IsBarredBy, Lacks}
+use Rattle.rm_core.specs.Names.{Move, turns, answered, Moves, HasRoomFor, IsRun, IsPassed, MayTry, Scans, part_end, IsNext, Aim, undoes_all, returns, target_of}
+use Rattle.rm_core.specs.Names.{Stage, idle, seeks, wants, tries, reads, fetches, alters, sets, settles, forces, finishes, rolls, prepares, compensates, Seat}
+use Rattle.rm_core.specs.Names.{State, seat_at, Turn, begin, scan, scan_last, latch, insert, alter}
+use Rattle.rm_play.specs.{TakesAt, MayTake, IsMoveFor, Progress, wanted, ByActor, offset_after, move_at, after_move, IsActor, TurnsAreMade, slot_for, found_at}
+use Rattle.rm_play.specs.{scanning, latching, latching_at, lock_of, locking_against, locking, altering_to, reaching, rolling, preparing, compensating, outside}
+use Rattle.rm_play.specs.{asking, chosen_at, chosen, state_after, ChosenIsMove, MovesExist}
+use Rattle.rm_core.proofs.Names.{inl, inr, leb, cond, refl, sym, ap, subst, ◌∙◌, arith, Decides-and, Decides-eqb, Decides-ltb, pending_falls, legal_is_in_order}
 use Rattle.rm_core.proofs.Runs.{run_kept}
 use Rattle.rm_core.proofs.Sizes.{next_within, next_after}
 use Rattle.rm_core.proofs.Steps.{heads_at}
-use Rattle.rm_play.specs.Choosing.{slot_for, found_at, scanning, latching, latching_at, lock_of, locking_against, locking, altering_to, reaching, rolling, preparing, compensating}
-use Rattle.rm_play.specs.Choosing.{outside, asking, chosen_at, chosen, state_after, ChosenIsMove, MovesExist}
 use Rattle.rm_play.proofs.Inside.{Within, Inside, run_inside}
-use Rattle.rm_play.proofs.Finding.{if_else, decides_le, decides_number, In, with_least, first_is_least, barring_is_least, Keeps, blocker_is_least, slot_is_for_row}
+use Rattle.rm_play.proofs.Finding.{if_else, decides_le, decides_number, In, with_least, first_is_least, barring_is_least, Keeps, blocker_is_least}
+use Rattle.rm_play.proofs.Finding.{slot_is_for_row}
+use Rattle.rm_events.specs.declared.operations.Op.TheVariants as ops
 
 -- of a session of a run, and an offset at which the next record may stand
 module _ (m : Setting) (s : State) (k lsn : ℕ) (among : k < length s.seats) (next : IsNext s.history lsn) (kept : Kept m.format s)

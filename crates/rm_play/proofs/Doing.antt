@@ -1,22 +1,14 @@
 -- The operation that a session is at, and that each of its turns goes on with it or finishes it.
-use Rattle.std.proofs.Common.{◌≡◌, ℕ, Bool, true, false, List, [], ◌∷◌, Option, Some, None, refl, sym, ap, subst, ◌∙◌}
-use Rattle.rm_types.specs.declared.formats.Format.{Format}
-use Rattle.rm_types.specs.declared.numbers.Rid.{Rid}
-use Rattle.rm_types.specs.declared.slots.Slot.{Slot}
+use Rattle.rm_core.specs.Below.{◌≡◌, ℕ, Bool, true, false, List, Option, Some, None, Format, Rid, Slot, Op}
+use Rattle.rm_core.specs.Names.{effect, latched, scanned, outcome_of, Asks, May, IsSkipped, Wants, Outcome, altering, asked, Scans, Aim, undoes_all, returns}
+use Rattle.rm_core.specs.Names.{Stage, idle, seeks, wants, tries, reads, fetches, alters, sets, settles, forces, finishes, rolls, prepares, compensates, Seat}
+use Rattle.rm_core.specs.Names.{State, Turn, skip, unname, refuse, begin, scan, scan_last, latch, try, try_last, insert, lock, lock_alone, wait, die, fetch}
+use Rattle.rm_core.specs.Names.{miss, lack, alter, settled, settle, commit, force, finish, abort, prepared, prepare, compensate, save, no_target, target, back}
+use Rattle.rm_core.specs.Names.{end}
+use Rattle.rm_play.specs.{Takes, TakesAt}
+use Rattle.rm_core.proofs.Names.{refl, sym, ap, subst, ◌∙◌}
 use Rattle.rm_types.specs.declared.slots.Slot.TheVariants as slot
-use Rattle.rm_events.specs.declared.operations.Op.{Op}
 use Rattle.rm_events.specs.declared.operations.Op.TheVariants as ops
-use Rattle.rm_play.specs.Choices.{Takes, TakesAt}
-use Rattle.rm_core.specs.Effects.{effect, latched, scanned}
-use Rattle.rm_core.specs.Events.{outcome_of}
-use Rattle.rm_core.specs.Locks.{Asks}
-use Rattle.rm_core.specs.May.{May, IsSkipped, Wants}
-use Rattle.rm_core.specs.Outcomes.{Outcome, altering, asked}
-use Rattle.rm_core.specs.Searching.{Scans}
-use Rattle.rm_core.specs.State.{Aim, undoes_all, returns, Stage, idle, seeks, wants, tries, reads, fetches, alters, sets, settles, forces, finishes, rolls, prepares}
-use Rattle.rm_core.specs.State.{compensates, Seat, State}
-use Rattle.rm_core.specs.Turns.{Turn, skip, unname, refuse, begin, scan, scan_last, latch, try, try_last, insert, lock, lock_alone, wait, die, fetch, miss, lack, alter}
-use Rattle.rm_core.specs.Turns.{settled, settle, commit, force, finish, abort, prepared, prepare, compensate, save, no_target, target, back, end}
 
 abbrev pub DoingAim : Aim → Op → Type 0
 DoingAim (undoes_all outcome) op = asked outcome ≡ op

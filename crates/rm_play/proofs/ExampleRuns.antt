@@ -1,30 +1,16 @@
 -- Runs of the machine by the words of scripts, evaluated.
-use Rattle.std.proofs.Common.{◌≡◌, ℕ, suc, ◌^◌, false, List, [], ◌∷◌, length, map, reverse, replicate, Option, Some, None, refl}
+use Rattle.rm_core.specs.Below.{◌≡◌, ℕ, suc, ◌^◌, false, List, [], ◌∷◌, length, map, replicate, Option, Some, None, Rid, used, History, enters, page_of}
+use Rattle.rm_core.specs.Below.{entry_of, need_of, rows_of_log, Actor, Session, Flush, Seen, Line, Word, Reply}
 use Rattle.std.specs.List.{range_with_len}
 use Rattle.rm_types.specs.declared.formats.Format.TheVariants.{One}
-use Rattle.rm_types.specs.declared.numbers.Rid.{Rid}
-use Rattle.rm_model.specs.Pages.{used}
-use Rattle.rm_history.specs.Acts.{History, enters}
-use Rattle.rm_history.specs.Contents.{page_of, entry_of}
-use Rattle.rm_history.specs.Needs.{need_of}
-use Rattle.rm_history.specs.Rows.{rows_of_log}
-use Rattle.rm_events.specs.declared.events.Actor.{Actor}
-use Rattle.rm_events.specs.declared.events.Actor.TheVariants.{Session, Flush}
-use Rattle.rm_events.specs.declared.events.Seen.{Seen}
-use Rattle.rm_events.specs.declared.events.Seen.TheVariants as sees
-use Rattle.rm_events.specs.declared.lines.Line.{Line}
-use Rattle.rm_events.specs.declared.lines.Line.TheVariants as line
 use Rattle.rm_events.specs.declared.lines.Target.TheVariants.{Name, At}
-use Rattle.rm_events.specs.declared.lines.Word.{Word}
+use Rattle.rm_core.specs.Names.{Event, Outcome, reply_of, Opening, size_of}
+use Rattle.rm_play.specs.{play, Progress, actors_of, begun}
+use Rattle.rm_core.proofs.Names.{reverse, refl}
+use Rattle.rm_events.specs.declared.events.Seen.TheVariants as sees
+use Rattle.rm_events.specs.declared.lines.Line.TheVariants as line
 use Rattle.rm_events.specs.declared.lines.Word.TheVariants as word
-use Rattle.rm_events.specs.declared.operations.Reply.{Reply}
 use Rattle.rm_events.specs.declared.operations.Reply.TheVariants as replies
-use Rattle.rm_core.specs.Events.{Event}
-use Rattle.rm_core.specs.Outcomes.{Outcome, reply_of}
-use Rattle.rm_play.specs.Playing.{play}
-use Rattle.rm_core.specs.Runs.{Opening}
-use Rattle.rm_core.specs.Sizes.{size_of}
-use Rattle.rm_play.specs.Words.{Progress, actors_of, begun}
 
 -- what is printed of an event: a session's reply, or for whom it waits
 data Printed : Type 0 where

@@ -1,25 +1,13 @@
 -- What the searches of a session's move find.
-use Rattle.std.proofs.Common.{◌≡◌, ◌⊎◌, inl, inr, ℕ, zero, suc, ◌+◌, ◌<◌, ◌≤◌, max, Bool, true, false, cond, IsTrue, Option, Some, None, is_some, leb, List, [], ◌∷◌, length, refl, ap, subst, arith}
-use Rattle.std.specs.Bool.{Decides}
-use Rattle.std.specs.Option.{unwrap_or}
-use Rattle.std.proofs.lemmas.Bool.{cases_eq, cases_lt, cond_both, leb-true, le-leb}
-use Rattle.std.proofs.lemmas.Bool.Decides.{not_from_Decides, Decides-like, Decides-not, Decides-and, Decides-or, Decides-eqb}
-use Rattle.std.proofs.lemmas.List.{get_or_past}
-use Rattle.rm_types.specs.declared.numbers.Rid.{Rid}
-use Rattle.rm_types.specs.declared.slots.Slot.{Slot}
-use Rattle.rm_types.specs.declared.slots.Slot.TheVariants.{Vacant, Row}
-use Rattle.rm_model.specs.Object.{is_same_place}
-use Rattle.rm_model.specs.Pages.{slot_at}
-use Rattle.rm_history.specs.Contents.{page_of}
-use Rattle.rm_history.specs.Room.{IsSlotForRow}
-use Rattle.rm_history.proofs.RowIds.{same_place, is_same_place-refl}
-use Rattle.rm_core.specs.Locks.{HasGrant, Blocks, Latches, Looks}
-use Rattle.rm_core.specs.May.{IsReading}
-use Rattle.rm_core.specs.Moves.{Bars}
-use Rattle.rm_core.specs.Searching.{IsHeld}
+use Rattle.rm_core.specs.Below.{◌≡◌, ◌⊎◌, ℕ, zero, suc, ◌+◌, ◌<◌, ◌≤◌, max, Bool, true, false, IsTrue, Option, Some, None, is_some, List, [], ◌∷◌, length}
+use Rattle.rm_core.specs.Below.{Decides, unwrap_or, Rid, Slot, Vacant, Row, is_same_place, slot_at, page_of, IsSlotForRow}
+use Rattle.rm_core.specs.Names.{HasGrant, Blocks, Latches, Looks, IsReading, Bars, IsHeld, Savepoint, HasNumber, Stage, tries, fetches, sets, settles, prepares}
+use Rattle.rm_core.specs.Names.{compensates, reads, Seat, Grant, State, seat_at, empty_seat}
+use Rattle.rm_play.specs.{first_from, blocks_it, blocker, is_vacant, is_free, past_locks, slot_for, latches_it, looks_at, is_reading, bars_it, first_barring}
+use Rattle.rm_play.specs.{has_number}
+use Rattle.rm_core.proofs.Names.{inl, inr, cond, leb, refl, ap, subst, arith, cases_eq, cases_lt, cond_both, leb-true, le-leb, not_from_Decides, Decides-like}
+use Rattle.rm_core.proofs.Names.{Decides-not, Decides-and, Decides-or, Decides-eqb, get_or_past, same_place, is_same_place-refl}
 use Rattle.rm_core.proofs.Grants.{alone_has}
-use Rattle.rm_core.specs.State.{Savepoint, HasNumber, Stage, tries, fetches, sets, settles, prepares, compensates, reads, Seat, Grant, State, seat_at, empty_seat}
-use Rattle.rm_play.specs.Choosing.{first_from, blocks_it, blocker, is_vacant, is_free, past_locks, slot_for, latches_it, looks_at, is_reading, bars_it, first_barring, has_number}
 
 -- ---- tests
 

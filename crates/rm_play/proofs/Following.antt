@@ -1,31 +1,17 @@
 -- The run of a script is a run of the machine, and its trace follows the lines.
-use Rattle.std.proofs.Common.{◌≡◌, inl, inr, ◌⊎◌, ℕ, zero, suc, ◌<◌, Bool, true, false, cond, eqb, List, [], ◌∷◌, ◌++◌, length, replicate, set, slice_index_or, Option, Some, None, refl, sym, ap, subst, ◌∙◌, arith}
-use Rattle.std.proofs.lemmas.Bool.{cases_eq}
-use Rattle.std.proofs.lemmas.List.{get_or-set_other, length-set, length-replicate}
-use Rattle.rm_types.specs.declared.numbers.Rid.{Rid}
-use Rattle.rm_history.proofs.PendingSteps.{if_equal, if_different}
-use Rattle.rm_events.specs.declared.events.Actor.{Actor}
-use Rattle.rm_events.specs.declared.events.Actor.TheVariants.{Session, Flush}
-use Rattle.rm_events.specs.declared.events.Seen.TheVariants as sees
-use Rattle.rm_events.specs.declared.lines.Line.{Line}
-use Rattle.rm_events.specs.declared.operations.Op.{Op}
-use Rattle.rm_events.specs.declared.operations.Op.TheVariants as ops
-use Rattle.rm_events.specs.Lines.{op_of, names_after}
-use Rattle.rm_play.specs.Choices.{IsMoveFor}
-use Rattle.rm_core.specs.Effects.{effect, after, staged}
-use Rattle.rm_core.specs.Events.{Event, outcome_of}
-use Rattle.rm_play.specs.Following.{finished_of, Follows, FollowsLines, IsAborted, IsRunOf, ScriptsRun}
-use Rattle.rm_core.specs.Kept.{Kept}
-use Rattle.rm_core.specs.Moves.{Answer, again, log_full, spent, closed, Move, turns, answered, rests, Moves}
-use Rattle.rm_core.specs.Orders.{onto}
-use Rattle.rm_core.specs.Outcomes.{Outcome, reply_of}
-use Rattle.rm_core.specs.Runs.{Opening, IsOpening, Machine, IsRun}
-use Rattle.rm_core.specs.State.{Stage, idle, Seat, State, seat_at, empty_seat}
-use Rattle.rm_play.specs.Words.{Progress, lines_at, names_at, no_names, begun, op_at, wanted, finished_by, left_with, left_after, names_with, advanced, kept_up, ByActor}
-use Rattle.rm_play.specs.Words.{IsStop, GoesOn, ByActors, StopsBy}
+use Rattle.rm_core.specs.Below.{◌≡◌, ◌⊎◌, ℕ, zero, suc, ◌<◌, Bool, true, false, List, [], ◌∷◌, length, replicate, slice_index_or, Option, Some, None, Rid}
+use Rattle.rm_core.specs.Below.{Actor, Session, Flush, Line, Op, op_of, names_after}
+use Rattle.rm_core.specs.Names.{effect, after, staged, outcome_of, Kept, Answer, again, log_full, spent, closed, Move, turns, answered, rests, Moves}
+use Rattle.rm_core.specs.Names.{onto, Outcome, reply_of, Opening, IsOpening, IsRun, Stage, idle, Seat, State, seat_at}
+use Rattle.rm_play.specs.{IsMoveFor, finished_of, Follows, FollowsLines, IsAborted, IsRunOf, ScriptsRun, Progress, lines_at, names_at, no_names, begun, op_at}
+use Rattle.rm_play.specs.{wanted, finished_by, left_with, left_after, names_with, advanced, kept_up, ByActor, IsStop, GoesOn, ByActors}
+use Rattle.rm_core.proofs.Names.{inl, inr, cond, eqb, set, refl, sym, ap, subst, ◌∙◌, arith, cases_eq, get_or-set_other, length-set, length-replicate, if_equal}
+use Rattle.rm_core.proofs.Names.{if_different}
 use Rattle.rm_core.proofs.Moves.{Moved, moved-set}
 use Rattle.rm_core.proofs.Runs.{moves_run, run_kept, seat_empty}
 use Rattle.rm_play.proofs.Doing.{Doing, goes_on}
+use Rattle.rm_events.specs.declared.events.Seen.TheVariants as sees
+use Rattle.rm_events.specs.declared.operations.Op.TheVariants as ops
 use Rattle.rm_play.proofs.Doing as doing
 
 -- ---- what holds of a session

@@ -1,12 +1,9 @@
 -- What holds of each run beside what is kept: an insert's page is one of the file, and the next id is at most 2 ^ 32.
-use Rattle.std.proofs.Common.{ℕ, zero, suc, List, [], ◌∷◌, ◌^◌, ◌<◌, ◌≤◌, true, false, set, sym, subst, arith}
-use Rattle.rm_types.specs.declared.formats.Format.{Format}
-use Rattle.rm_core.specs.Effects.{Effect, effect, goes_to, latched, staged, with_effect}
-use Rattle.rm_core.specs.May.{May, Wants}
-use Rattle.rm_core.specs.Moves.{Setting, again, log_full, spent, Move, turns, answered, appends, append_refused, rests, Moves}
-use Rattle.rm_core.specs.Runs.{Machine, IsRun}
-use Rattle.rm_core.specs.State.{Stage, idle, wants, tries, Seat, State, seat_at}
-use Rattle.rm_core.specs.Turns.{Turn, skip, unname, refuse, begin, scan, latch, wait}
+use Rattle.rm_core.specs.Below.{ℕ, zero, suc, List, [], ◌∷◌, ◌^◌, ◌<◌, ◌≤◌, true, false, Format}
+use Rattle.rm_core.specs.Names.{Effect, effect, goes_to, latched, staged, with_effect, May, Wants, Setting, again, log_full, spent, Move, turns, answered}
+use Rattle.rm_core.specs.Names.{appends, append_refused, rests, Moves, Machine, IsRun, Stage, idle, wants, tries, Seat, State, seat_at, Turn, skip, unname}
+use Rattle.rm_core.specs.Names.{refuse, begin, scan, latch, wait}
+use Rattle.rm_core.proofs.Names.{set, sym, subst, arith}
 use Rattle.rm_core.proofs.Runs.{along, seat_empty}
 
 abbrev pub Within : ℕ → Stage → Type 0

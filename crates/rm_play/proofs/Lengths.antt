@@ -1,34 +1,20 @@
 -- Each turn brings its operation nearer to its end.
-use Rattle.std.proofs.Common.{◌≡◌, inl, inr, ℕ, ◌+◌, ◌-◌, ◌*◌, ◌<◌, ◌≤◌, Bool, true, false, List, [], ◌∷◌, length, refl, sym, ap, subst, ◌∙◌, arith, ltb}
-use Rattle.std.proofs.lemmas.Bool.{cases_eq, cond_both, lt-ltb}
-use Rattle.rm_types.specs.declared.formats.Format.{Format}
-use Rattle.rm_types.specs.declared.numbers.Rid.{Rid}
-use Rattle.rm_types.specs.declared.slots.Slot.TheVariants.{Vacant, Row}
-use Rattle.rm_history.specs.Acts.{Change, undoes}
-use Rattle.rm_history.specs.Pending.{pending_of}
-use Rattle.rm_history.specs.Undoing.{undo_for}
-use Rattle.rm_history.proofs.Chains.{last_is_of}
-use Rattle.rm_history.proofs.NeedSums.{pending_of-undo}
-use Rattle.rm_history.proofs.PendingSteps.{pending-change_other, pending-undo_other, pending-commit_other, pending-end_other}
-use Rattle.rm_events.specs.declared.operations.Op.{Op}
-use Rattle.rm_events.specs.declared.operations.Op.TheVariants as ops
-use Rattle.rm_play.specs.Choices.{Takes, TakesAt}
-use Rattle.rm_core.specs.Effects.{setting, effect, logging, latched, staged}
-use Rattle.rm_core.specs.Kept.{Kept}
-use Rattle.rm_play.specs.Lengths.{above, search_turns, left_at, turns_left, most_turns, TurnsComeNearer, Adds, Makes, OperationsEnd}
-use Rattle.rm_core.specs.Locks.{Asks}
-use Rattle.rm_core.specs.May.{Wants, IsSeated, May, Step}
-use Rattle.rm_core.specs.Moves.{again, log_full, spent, Setting, closed, Move, turns, answered, appends, append_refused, rests, Moves}
-use Rattle.rm_core.specs.Runs.{Opening, Machine, IsRun, moved}
-use Rattle.rm_core.specs.Searching.{Scans}
-use Rattle.rm_core.specs.State.{undoes_all, returns, target_of, Stage, idle, seeks, wants, tries, reads, fetches, alters, sets, settles, forces, finishes}
-use Rattle.rm_core.specs.State.{rolls, prepares, compensates, Seat, State, seat_at}
-use Rattle.rm_core.specs.Turns.{Turn, skip, unname, refuse, begin, scan, scan_last, latch, try, try_last, insert, lock, lock_alone, wait, die, fetch, miss, lack, alter}
-use Rattle.rm_core.specs.Turns.{settled, settle, commit, force, finish, abort, prepared, prepare, compensate, end, save, no_target, target, back}
-use Rattle.rm_play.proofs.Inside.{Within, run_inside}
+use Rattle.rm_core.specs.Below.{◌≡◌, ℕ, ◌+◌, ◌*◌, ◌<◌, ◌≤◌, Bool, true, false, List, [], ◌∷◌, length, Format, Rid, Vacant, Row, Change, undoes, pending_of}
+use Rattle.rm_core.specs.Below.{undo_for, Op}
+use Rattle.rm_core.specs.Names.{effect, logging, latched, staged, Kept, Asks, Wants, IsSeated, May, Step, again, log_full, spent, Setting, closed}
+use Rattle.rm_core.specs.Names.{Move, turns, answered, appends, append_refused, rests, Moves, Opening, Machine, IsRun, moved, Scans, undoes_all, returns}
+use Rattle.rm_core.specs.Names.{target_of, Stage, idle, seeks, wants, tries, reads, fetches, alters, sets, settles, forces, finishes, rolls, prepares}
+use Rattle.rm_core.specs.Names.{compensates, Seat, State, seat_at, Turn, skip, unname, refuse, begin, scan, scan_last, latch, try, try_last, insert, lock}
+use Rattle.rm_core.specs.Names.{lock_alone, wait, die, fetch, miss, lack, alter, settled, settle, commit, force, finish, abort, prepared, prepare, compensate}
+use Rattle.rm_core.specs.Names.{end, save, no_target, target, back}
+use Rattle.rm_play.specs.{Takes, TakesAt, above, search_turns, left_at, turns_left, most_turns, TurnsComeNearer, Adds, Makes, OperationsEnd}
+use Rattle.rm_core.proofs.Names.{inl, inr, refl, sym, ap, subst, ◌∙◌, arith, ltb, cases_eq, cond_both, lt-ltb, last_is_of, pending_of-undo}
+use Rattle.rm_core.proofs.Names.{pending-change_other, pending-undo_other, pending-commit_other, pending-end_other}
 use Rattle.rm_core.proofs.Moves.{moved-set}
 use Rattle.rm_core.proofs.Runs.{moves_run, run_kept}
 use Rattle.rm_core.proofs.Steps.{heads_at}
+use Rattle.rm_play.proofs.Inside.{Within, run_inside}
+use Rattle.rm_events.specs.declared.operations.Op.TheVariants as ops
 
 above_within : (floor : ℕ) (pending : List Change) → above floor pending ≤ length pending
 above_within floor [] = omega arith

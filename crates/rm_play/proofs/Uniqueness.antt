@@ -1,39 +1,18 @@
 -- A session's move for an operation is one but for its free choices: it is the chosen one, but for the log's room.
-use Rattle.std.proofs.Common.{◌≡◌, inl, inr, ℕ, ◌+◌, ◌-◌, ◌*◌, ◌^◌, ◌==◌, ◌<◌, ◌≤◌, max, cond, Bool, true, false, Option, Some, None, List, [], ◌∷◌, length}
-use Rattle.std.proofs.Common.{refl, sym, ap, subst, ◌∙◌, arith}
-use Rattle.std.specs.Bool.{Decides}
-use Rattle.std.specs.Prelude.{nat_lt, nat_le, ◌&&◌, if◌then◌else◌}
-use Rattle.std.proofs.lemmas.Bool.{cases_eq, cases_order}
-use Rattle.std.proofs.lemmas.Bool.Decides.{Decides-and, Decides-eqb, Decides-ltb}
-use Rattle.rm_types.specs.Formats.{category_bytes}
-use Rattle.rm_types.specs.declared.numbers.Rid.{Rid}
-use Rattle.rm_types.specs.declared.numbers.TheConstants.{MAX_SLOT}
-use Rattle.rm_types.specs.declared.slots.Slot.{Slot}
-use Rattle.rm_types.specs.declared.slots.Slot.TheVariants.{Vacant, Row}
-use Rattle.rm_types.specs.declared.slots.TheConstants.{CAPACITY}
-use Rattle.rm_model.specs.Pages.{slot_at}
-use Rattle.rm_history.specs.Acts.{Change}
-use Rattle.rm_history.specs.Contents.{page_of, entry_of}
-use Rattle.rm_history.specs.Pending.{pending_of}
-use Rattle.rm_history.specs.Room.{IsSlotForRow, RowFits, unreserved}
-use Rattle.rm_events.specs.declared.operations.Op.{Op}
-use Rattle.rm_events.specs.declared.operations.Op.TheVariants as ops
-use Rattle.rm_core.specs.Effects.{after}
-use Rattle.rm_core.specs.Kept.{Kept}
-use Rattle.rm_core.specs.Locks.{Asks, IsInside}
-use Rattle.rm_core.specs.May.{Wants, IsBlockedBy, IsSkipped, IsSeated, May, SlotFits}
-use Rattle.rm_core.specs.Moves.{Setting, again, log_full, spent, Bars, IsSpent, Lacks, Move, turns, answered}
-use Rattle.rm_core.specs.Room.{CHANGE_COST, owed}
-use Rattle.rm_core.specs.Searching.{Scans, IsHeld, MayTry, part_end}
-use Rattle.rm_core.specs.Sizes.{end_of}
-use Rattle.rm_core.specs.State.{undoes_all, returns, target_of, Stage, idle, seeks, wants, reads, alters, rolls, Seat, State, seat_at}
-use Rattle.rm_core.specs.Turns.{Turn, skip, unname, refuse, begin, scan, scan_last, latch, try, try_last, insert, lock, lock_alone, wait, die, fetch, miss, lack, alter}
-use Rattle.rm_core.specs.Turns.{settled, settle, commit, force, finish, abort, prepared, prepare, compensate, end, save, no_target, target, back}
+use Rattle.rm_core.specs.Below.{◌≡◌, ℕ, ◌+◌, ◌-◌, ◌*◌, ◌^◌, ◌==◌, ◌<◌, ◌≤◌, max, Bool, true, false, Option, Some, None, List, [], ◌∷◌, length, Decides, nat_lt}
+use Rattle.rm_core.specs.Below.{nat_le, ◌&&◌, if◌then◌else◌, category_bytes, Rid, MAX_SLOT, Slot, Vacant, Row, CAPACITY, slot_at, Change, page_of, entry_of}
+use Rattle.rm_core.specs.Below.{pending_of, IsSlotForRow, RowFits, unreserved, Op}
+use Rattle.rm_core.specs.Names.{after, Kept, Asks, IsInside, Wants, IsBlockedBy, IsSkipped, IsSeated, May, SlotFits, Setting, again, log_full, spent, Bars}
+use Rattle.rm_core.specs.Names.{IsSpent, Lacks, Move, turns, answered, CHANGE_COST, owed, Scans, IsHeld, MayTry, part_end, end_of, undoes_all, returns}
+use Rattle.rm_core.specs.Names.{target_of, Stage, idle, seeks, wants, reads, alters, rolls, Seat, State, seat_at, Turn, skip, unname, refuse, begin, scan}
+use Rattle.rm_core.specs.Names.{scan_last, latch, try, try_last, insert, lock, lock_alone, wait, die, fetch, miss, lack, alter, settled, settle, commit, force}
+use Rattle.rm_core.specs.Names.{finish, abort, prepared, prepare, compensate, end, save, no_target, target, back}
+use Rattle.rm_play.specs.{Takes, TakesAt, MayTake, IsMoveFor, erased, AsksRoom, IsAlike, MovesAreOne, slot_for, found_at, scanning, latching, latching_at}
+use Rattle.rm_play.specs.{locking_against, locking, altering_to, rolling, preparing, compensating, outside, asking, chosen_at}
+use Rattle.rm_core.proofs.Names.{inl, inr, cond, refl, sym, ap, subst, ◌∙◌, arith, cases_eq, cases_order, Decides-and, Decides-eqb, Decides-ltb}
 use Rattle.rm_core.proofs.Runs.{run_kept}
-use Rattle.rm_play.specs.Choices.{Takes, TakesAt, MayTake, IsMoveFor, erased, AsksRoom, IsAlike, MovesAreOne}
-use Rattle.rm_play.specs.Choosing.{slot_for, found_at, scanning, latching, latching_at, locking_against, locking, altering_to}
-use Rattle.rm_play.specs.Choosing.{rolling, preparing, compensating, outside, asking, chosen_at, chosen}
 use Rattle.rm_play.proofs.Finding.{if_else, decides_le, decides_number, IsLeast, In, first_is_least, barring_is_least, Keeps, blocker_is_least, slot_is_for_row}
+use Rattle.rm_events.specs.declared.operations.Op.TheVariants as ops
 
 -- a test that is decided
 yes_it : {X A : Type 0} {b : Bool} {x : X} (y : X) → Decides b A → A → x ≡ cond b x y

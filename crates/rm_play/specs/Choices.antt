@@ -1,17 +1,9 @@
 -- Which moves a session may make for an operation: there is one in every state, and it is one but for its free choices.
-use Rattle.std.specs.Prelude.{◌≡◌, ℕ, ◌+◌, ◌<◌, length}
-use Rattle.rm_events.specs.declared.operations.Op.{Op}
+use Rattle.rm_core.specs.Below.{◌≡◌, ℕ, ◌+◌, Op}
+use Rattle.rm_core.specs.Names.{after, May, IsSeated, Setting, again, log_full, spent, IsBarredBy, IsSpent, Lacks, Move, turns, answered, altering}
+use Rattle.rm_core.specs.Names.{HasRoomFor, Machine, IsRun, IsNext, Stage, idle, State, seat_at, Turn, skip, unname, refuse, begin, scan, scan_last, insert}
+use Rattle.rm_core.specs.Names.{lock, lock_alone, wait, die, alter, settle, commit, force, abort, prepare, compensate, end, save, no_target, target}
 use Rattle.rm_events.specs.declared.operations.Op.TheVariants as ops
-use Rattle.rm_core.specs.Effects.{after}
-use Rattle.rm_core.specs.May.{May, IsSeated}
-use Rattle.rm_core.specs.Moves.{Setting, again, log_full, spent, IsBarredBy, IsSpent, Lacks, Move, turns, answered, Moves}
-use Rattle.rm_core.specs.Outcomes.{altering}
-use Rattle.rm_core.specs.Room.{HasRoomFor}
-use Rattle.rm_core.specs.Runs.{Machine, IsRun}
-use Rattle.rm_core.specs.Sizes.{IsNext}
-use Rattle.rm_core.specs.State.{Stage, idle, State, seat_at}
-use Rattle.rm_core.specs.Turns.{Turn, skip, unname, refuse, begin, scan, scan_last, insert, lock, lock_alone, wait, die, alter, settle, commit, force, abort}
-use Rattle.rm_core.specs.Turns.{prepare, compensate, end, save, no_target, target}
 
 -- the operation that an idle session's turn takes
 abbrev pub Takes : Turn → Op → Type 0

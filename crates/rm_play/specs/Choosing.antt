@@ -1,36 +1,17 @@
 -- The move that a session makes for an operation, as a function of its one free choice: the offset at which the next record may stand, which
 -- is the LSN of its record, or how far the log is durable.
-use Rattle.std.specs.Prelude.{◌<◌, ℕ, zero, suc, ◌+◌, ◌-◌, ◌*◌, ◌^◌, ◌==◌, ◌&&◌, ◌||◌, not, nat_lt, nat_le, if◌then◌else◌, Bool, true, false, List, [], ◌∷◌, length, max, Option, Some, None, is_some}
-use Rattle.std.specs.Option.{unwrap_or}
-use Rattle.rm_types.specs.declared.formats.Format.{Format}
-use Rattle.rm_types.specs.declared.numbers.Rid.{Rid}
-use Rattle.rm_types.specs.declared.numbers.TheConstants.{MAX_SLOT}
-use Rattle.rm_types.specs.declared.slots.Slot.{Slot}
-use Rattle.rm_types.specs.declared.slots.Slot.TheVariants as slot
-use Rattle.rm_types.specs.declared.slots.TheConstants.{CAPACITY}
-use Rattle.rm_types.specs.Formats.{category_bytes}
-use Rattle.rm_model.specs.Pages.{used, slot_at}
-use Rattle.rm_model.specs.Categories.{category_of}
-use Rattle.rm_model.specs.Object.{is_same_place}
-use Rattle.rm_history.specs.Acts.{Change, History}
-use Rattle.rm_history.specs.Contents.{page_of, entry_of}
-use Rattle.rm_history.specs.Needs.{need_of}
-use Rattle.rm_history.specs.Pending.{pending_of}
-use Rattle.rm_history.specs.Room.{others_need, unreserved, growth_for}
-use Rattle.rm_history.specs.Undoing.{category_after}
-use Rattle.rm_events.specs.declared.operations.Op.{Op}
-use Rattle.rm_events.specs.declared.operations.Op.TheVariants as ops
-use Rattle.rm_core.specs.Effects.{after}
+use Rattle.rm_core.specs.Below.{◌<◌, ℕ, zero, suc, ◌+◌, ◌-◌, ◌*◌, ◌^◌, ◌==◌, ◌&&◌, ◌||◌, not, nat_lt, nat_le, if◌then◌else◌, Bool, true, false, List, [], ◌∷◌}
+use Rattle.rm_core.specs.Below.{length, max, Option, Some, None, is_some, unwrap_or, Format, Rid, MAX_SLOT, Slot, CAPACITY, category_bytes, used, slot_at}
+use Rattle.rm_core.specs.Below.{category_of, is_same_place, Change, History, page_of, entry_of, need_of, pending_of, others_need, unreserved, growth_for}
+use Rattle.rm_core.specs.Below.{category_after, Op}
+use Rattle.rm_core.specs.Names.{after, Setting, again, log_full, spent, closed, Move, turns, answered, Moves, CHANGE_COST, owed, part_end, Machine, IsRun}
+use Rattle.rm_core.specs.Names.{end_of, IsNext, Savepoint, value_at, Aim, undoes_all, returns, target_of, Stage, idle, seeks, wants, tries, reads, fetches}
+use Rattle.rm_core.specs.Names.{alters, sets, settles, forces, finishes, rolls, prepares, compensates, Seat, Grant, State, seat_at, Turn, skip, unname, refuse}
+use Rattle.rm_core.specs.Names.{begin, scan, scan_last, latch, try, try_last, insert, lock, lock_alone, wait, die, fetch, miss, lack, alter, settled, settle}
+use Rattle.rm_core.specs.Names.{commit, force, finish, abort, prepared, prepare, compensate, save, no_target, target, back, end}
 use Rattle.rm_play.specs.Choices.{IsMoveFor}
-use Rattle.rm_core.specs.Moves.{Setting, again, log_full, spent, closed, Move, turns, answered, Moves}
-use Rattle.rm_core.specs.Room.{CHANGE_COST, owed}
-use Rattle.rm_core.specs.Searching.{part_end}
-use Rattle.rm_core.specs.Runs.{Machine, IsRun}
-use Rattle.rm_core.specs.Sizes.{end_of, IsNext}
-use Rattle.rm_core.specs.State.{Savepoint, value_at, Aim, undoes_all, returns, target_of, Stage, idle, seeks, wants, tries, reads, fetches, alters, sets, settles, forces}
-use Rattle.rm_core.specs.State.{finishes, rolls, prepares, compensates, Seat, Grant, State, seat_at}
-use Rattle.rm_core.specs.Turns.{Turn, skip, unname, refuse, begin, scan, scan_last, latch, try, try_last, insert, lock, lock_alone, wait, die, fetch, miss, lack, alter}
-use Rattle.rm_core.specs.Turns.{settled, settle, commit, force, finish, abort, prepared, prepare, compensate, save, no_target, target, back, end}
+use Rattle.rm_types.specs.declared.slots.Slot.TheVariants as slot
+use Rattle.rm_events.specs.declared.operations.Op.TheVariants as ops
 
 -- ---- what is looked for
 

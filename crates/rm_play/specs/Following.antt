@@ -1,17 +1,8 @@
 -- A trace follows the lines of a script.
-use Rattle.std.specs.Prelude.{◌≡◌, ℕ, Bool, true, false, List, [], ◌∷◌, Option, Some, None, slice_index_or, ◌⊎◌}
-use Rattle.rm_types.specs.declared.numbers.Rid.{Rid}
-use Rattle.rm_events.specs.declared.events.Actor.{Actor}
-use Rattle.rm_events.specs.declared.lines.Line.{Line}
+use Rattle.rm_core.specs.Below.{◌≡◌, ℕ, Bool, true, false, List, [], ◌∷◌, Option, slice_index_or, ◌⊎◌, Rid, Actor, Line, op_of, names_after}
+use Rattle.rm_core.specs.Names.{Event, Move, onto, Outcome, asked, reply_of, Opening, IsOpening, IsRun, of_session}
+use Rattle.rm_play.specs.Words.{Progress, no_names, begun, ByActors, StopsBy}
 use Rattle.rm_events.specs.declared.operations.Op.TheVariants as ops
-use Rattle.rm_events.specs.Lines.{op_of, names_after}
-use Rattle.rm_core.specs.Events.{Event}
-use Rattle.rm_core.specs.Moves.{Move}
-use Rattle.rm_core.specs.Orders.{onto}
-use Rattle.rm_core.specs.Outcomes.{Outcome, asked, reply_of}
-use Rattle.rm_core.specs.Runs.{Opening, IsOpening, IsRun}
-use Rattle.rm_core.specs.Searches.{of_session}
-use Rattle.rm_play.specs.Words.{Progress, lines_at, no_names, begun, ByActors, StopsBy}
 
 -- a session's finished operations, the newest first
 abbrev pub finished_of : List Event → ℕ → List Outcome

@@ -1,17 +1,10 @@
 -- How many turns an operation takes at the most.
-use Rattle.std.specs.Prelude.{◌≡◌, ℕ, ◌+◌, ◌-◌, ◌*◌, ◌/◌, ◌≤◌, ◌<◌, nat_lt, if◌then◌else◌, max, List, [], ◌∷◌, length, ◌⊎◌}
-use Rattle.rm_types.specs.declared.numbers.TheConstants.{BLOCK_PAGES}
-use Rattle.rm_types.specs.Formats.{blocks_of}
-use Rattle.rm_history.specs.Acts.{Change, History}
-use Rattle.rm_history.specs.Pending.{pending_of}
-use Rattle.rm_events.specs.declared.operations.Op.{Op}
-use Rattle.rm_events.specs.declared.operations.Op.TheVariants as ops
+use Rattle.rm_core.specs.Below.{◌≡◌, ℕ, ◌+◌, ◌-◌, ◌*◌, ◌/◌, ◌≤◌, ◌<◌, nat_lt, if◌then◌else◌, max, List, [], ◌∷◌, length, ◌⊎◌, BLOCK_PAGES, blocks_of, Change}
+use Rattle.rm_core.specs.Below.{History, pending_of, Op}
+use Rattle.rm_core.specs.Names.{Step, Move, turns, Moves, Machine, IsRun, moved, target_of, Stage, idle, seeks, wants, tries, reads, fetches, alters, sets}
+use Rattle.rm_core.specs.Names.{settles, forces, finishes, rolls, prepares, compensates, Seat, State, seat_at, Turn}
 use Rattle.rm_play.specs.Choices.{Takes, TakesAt}
-use Rattle.rm_core.specs.May.{Step}
-use Rattle.rm_core.specs.Moves.{Move, turns, Moves}
-use Rattle.rm_core.specs.Runs.{Machine, IsRun, moved}
-use Rattle.rm_core.specs.State.{target_of, Stage, idle, seeks, wants, tries, reads, fetches, alters, sets, settles, forces, finishes, rolls, prepares, compensates, Seat, State, seat_at}
-use Rattle.rm_core.specs.Turns.{Turn}
+use Rattle.rm_events.specs.declared.operations.Op.TheVariants as ops
 
 -- how many pending changes are above the target
 abbrev pub above : ℕ → List Change → ℕ

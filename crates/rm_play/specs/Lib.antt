@@ -4,3 +4,9 @@ pub mod Choosing
 pub mod Words
 pub mod Following
 pub mod Playing
+pub use Choices.*
+pub use Lengths.*
+pub use Choosing.*
+pub use Words.*
+pub use Following.*
+pub use Playing.*

@@ -1,15 +1,10 @@
 -- The run of a script as a function of its free choices.
-use Rattle.std.specs.Prelude.{ℕ, suc, ◌+◌, ◌<◌, Bool, true, false, List, [], ◌∷◌, length, option_map, Option, Some, None}
-use Rattle.rm_history.specs.Acts.{History}
-use Rattle.rm_history.specs.declared.TheConstants.{BATCH_HEADER}
-use Rattle.rm_events.specs.declared.events.Actor.{Actor}
-use Rattle.rm_events.specs.declared.events.Actor.TheVariants.{Session, Flush}
-use Rattle.rm_events.specs.declared.events.Seen.TheVariants as sees
+use Rattle.rm_core.specs.Below.{ℕ, suc, ◌+◌, ◌<◌, Bool, true, false, List, [], ◌∷◌, length, option_map, Option, Some, None, History, BATCH_HEADER, Actor}
+use Rattle.rm_core.specs.Below.{Session, Flush}
+use Rattle.rm_core.specs.Names.{Move, rests, IsRun, end_of}
 use Rattle.rm_play.specs.Choosing.{chosen, state_after}
-use Rattle.rm_core.specs.Moves.{Move, rests}
-use Rattle.rm_core.specs.Runs.{IsRun}
-use Rattle.rm_core.specs.Sizes.{end_of}
 use Rattle.rm_play.specs.Words.{Progress, wanted, advanced, kept_up, ByActor}
+use Rattle.rm_events.specs.declared.events.Seen.TheVariants as sees
 
 -- the offset of the next record: the end of the newest one, or a batch's header more
 abbrev pub offset_after : History → Bool → ℕ

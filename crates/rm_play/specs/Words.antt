@@ -1,21 +1,12 @@
 -- The run of a script: each actor of a list makes one turn, a session for its next line.
-use Rattle.std.specs.Prelude.{◌≡◌, ℕ, zero, suc, ◌+◌, Bool, true, false, List, [], ◌∷◌, ◌++◌, length, replicate, slice_index_or, slice_set, Option, Some, None, ◌⊎◌}
-use Rattle.rm_types.specs.declared.numbers.Rid.{Rid}
-use Rattle.rm_events.specs.declared.events.Actor.{Actor}
-use Rattle.rm_events.specs.declared.events.Actor.TheVariants.{Session, Flush}
-use Rattle.rm_events.specs.declared.events.Seen.TheVariants as sees
-use Rattle.rm_events.specs.declared.lines.Line.{Line}
-use Rattle.rm_events.specs.declared.lines.Word.{Word}
-use Rattle.rm_events.specs.declared.lines.Word.TheVariants as word
-use Rattle.rm_events.specs.declared.operations.Op.{Op}
-use Rattle.rm_events.specs.declared.operations.Op.TheVariants as ops
-use Rattle.rm_events.specs.Lines.{op_of, names_after}
+use Rattle.rm_core.specs.Below.{◌≡◌, ℕ, zero, suc, ◌+◌, Bool, true, false, List, [], ◌∷◌, ◌++◌, length, replicate, slice_index_or, slice_set, Option, Some}
+use Rattle.rm_core.specs.Below.{None, Rid, Actor, Session, Flush, Line, Word, Op, op_of, names_after}
+use Rattle.rm_core.specs.Names.{outcome_of, log_full, spent, Move, turns, answered, rests, Moves, Outcome, reply_of, Opening, Machine, started, moved}
+use Rattle.rm_core.specs.Names.{State, seat_at}
 use Rattle.rm_play.specs.Choices.{IsMoveFor}
-use Rattle.rm_core.specs.Events.{outcome_of}
-use Rattle.rm_core.specs.Moves.{again, log_full, spent, Move, turns, answered, rests, Moves}
-use Rattle.rm_core.specs.Outcomes.{Outcome, reply_of}
-use Rattle.rm_core.specs.Runs.{Opening, Machine, started, moved}
-use Rattle.rm_core.specs.State.{State, seat_at}
+use Rattle.rm_events.specs.declared.events.Seen.TheVariants as sees
+use Rattle.rm_events.specs.declared.lines.Word.TheVariants as word
+use Rattle.rm_events.specs.declared.operations.Op.TheVariants as ops
 
 -- ---- the words
 

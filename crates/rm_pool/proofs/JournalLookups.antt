@@ -14,7 +14,7 @@ use Rattle.rm_record.specs.declared.records.LogRecord.{LogRecord}
 use Rattle.rm_record.specs.Records.{spelling, spelling_all, IsRecord}
 use Rattle.rm_record.proofs.Decoding.{spellings_are_apart}
 use Rattle.rm_history.specs.declared.TheConstants.{BATCH_HEADER}
-use Rattle.rm_history.specs.Logs.{Batch, gate_of, body_of, Stands}
+use Rattle.rm_history.specs.Logs.{Batch, gate_of, Stands}
 use Rattle.rm_history.specs.Acts.{Act, History, act_at, lsn_of}
 use Rattle.rm_history.specs.Batched.{acts_after, acts_of_batches}
 use Rattle.rm_history.proofs.Appending.{lsn_of-act_at}
@@ -59,9 +59,9 @@ among_records : (history : History) (at : ℕ) (records : Batch) → AllByRecurs
 among_records history at [] are act is = inl is
 among_records history at (next ∷ records) are act is = elim (among_records (act_at at next ∷ history) (at + length (spelling next)) records are.1 act is) [
   | inl found ↦ elim found [
-      | inl here ↦ inr (record { front = []; what = next; rest = spelling_all records; is_record = are.0; cut = refl; is = here ∙ ap (λ (n : ℕ). act_at n next) (omega arith) })
-      | inr before ↦ inl before
-    ]
+    | inl here ↦ inr (record { front = []; what = next; rest = spelling_all records; is_record = are.0; cut = refl; is = here ∙ ap (λ (n : ℕ). act_at n next) (omega arith) })
+    | inr before ↦ inl before
+  ]
   | inr among ↦ inr (among_more at next (spelling_all records) act among)
 ]
 

@@ -4,24 +4,23 @@ use Rattle.std.specs.List.{AllByRecursion}
 use Rattle.std.proofs.lemmas.Grind.{flat_map-append}
 use Rattle.std.proofs.lemmas.List.{append-nil}
 use Rattle.rm_types.specs.declared.areas.Area.TheVariants.{Log}
-use Rattle.rm_outside.specs.declared.volume.Volume.{Ghosts}
 use Rattle.rm_outside.specs.Images.{Bytes, Image, KeepsOthers}
 use Rattle.rm_outside.specs.Moments.{ComesBy, IsDurable, LeavesOnly, started, joined, weaker}
-use Rattle.rm_outside.specs.Calls.{AllLeft, Facts, facts_of, Reading}
+use Rattle.rm_outside.specs.Calls.{AllLeft, Facts, Reading}
 use Rattle.rm_outside.proofs.CallLemmas.{counts_none, counts_as, counts_then}
 use Rattle.rm_record.specs.declared.records.LogRecord.{LogRecord}
 use Rattle.rm_record.specs.declared.records.Logged.{Logged}
 use Rattle.rm_record.specs.Records.{spelling, spelling_all, IsRecord}
 use Rattle.rm_history.specs.declared.TheConstants.{BATCH_HEADER}
-use Rattle.rm_history.specs.Logs.{Batch, gate_of, IsInRange, AreBatches, HasLog}
-use Rattle.rm_history.specs.Acts.{Act, History, act_at, acts_of}
+use Rattle.rm_history.specs.Logs.{Batch, IsInRange, HasLog}
+use Rattle.rm_history.specs.Acts.{History, act_at, acts_of}
 use Rattle.rm_history.specs.Batched.{acts_after, acts_of_batches}
 use Rattle.rm_history.proofs.Appending.{acts_after-snoc}
 use Rattle.rm_history.proofs.Readings.{records_once}
 use Rattle.rm_wal.specs.Attaching.{Attaches}
-use Rattle.rm_wal.specs.Flushing.{Done, FlushStep, Flushing, HasEither, Tails, written_tail}
+use Rattle.rm_wal.specs.Flushing.{Done, FlushStep, Flushing, HasEither}
 use Rattle.rm_wal.specs.Tails.{LogValue, end_of}
-use Rattle.rm_pool.specs.Journals.{HasFront, IsLeft, Since, Known, Standing, flushed, gate_after}
+use Rattle.rm_pool.specs.Journals.{JournalValue, IsBetween, Since, Known, Standing, flushed, gate_after}
 
 -- ---- images
 
@@ -122,7 +121,12 @@ stands_appended next lsn is lsn_is stands =
       known = λ sure. known_appended next lsn is lsn_is (stands.known sure);
     }
 
--- ---- fronts
+-- ---- what is known
+
+-- it is known of the fields of a journal
+pub known_of : {opened now : Facts} {log : LogValue} {history durable : History} {V : Type 0} {it value : JournalValue V} → Standing opened now log history durable it.is_known
+    → it ≡ value → IsTrue value.is_known → Known now log history durable
+known_of stands is sure = stands.known (ap (λ (journal : JournalValue _). journal.is_known) is ∙ sure)
 
 newer_of : (history : History) (at : ℕ) (tail : Batch) → (newer : History) × (acts_after history at tail ≡ newer ++ history)
 newer_of history at [] = ([], refl)
@@ -135,15 +139,34 @@ module _ {now : Facts} {log : LogValue} {history durable : History} (known : Kno
   whole_is : acts_of_batches (known.tail ∷ known.batches) ≡ history
   whole_is = (λ i. acts_after (known.durable_is i) (sym known.tails.gate_is i + BATCH_HEADER) known.tail) ∙ known.history_is
 
-  -- and without it a front of it
-  front_of_old : (c : Image) → HasLog (c Log) known.batches → HasFront history c
-  front_of_old c has =
-      let newer = newer_of durable (log.batch + BATCH_HEADER) known.tail in
-      record { batches = known.batches; has = has; newer = newer.0; is = sym known.history_is ∙ newer.1 ∙ ap (λ (h : History). newer.0 ++ h) (sym known.durable_is) }
+  -- what is durable and what is newer
+  newer : (newer : History) × (history ≡ newer ++ durable)
+  newer = let parts = newer_of durable (log.batch + BATCH_HEADER) known.tail in (parts.0, sym known.history_is ∙ parts.1)
 
-  front_of_either : (c : Image) → HasEither known.batches known.tail c → HasFront history c
-  front_of_either c (inl old) = front_of_old c old
-  front_of_either c (inr new) = record { batches = known.tail ∷ known.batches; has = new; newer = []; is = sym whole_is }
+  -- and without it what is durable
+  between_old : (c : Image) → HasLog (c Log) known.batches → IsBetween durable history c
+  between_old c has = record {
+    front = record { batches = known.batches; has = has; newer = newer.0; is = newer.1 ∙ ap (λ (h : History). newer.0 ++ h) (sym known.durable_is) };
+    more = [];
+    kept = known.durable_is;
+  }
+
+  pub between_now : (c : Image) → now.may_leave c → IsBetween durable history c
+  between_now c left = between_old c (known.tails.logs c left)
+
+  between_either : (c : Image) → HasEither known.batches known.tail c → IsBetween durable history c
+  between_either c (inl old) = between_old c old
+  between_either c (inr new) = record {
+    front = record { batches = known.tail ∷ known.batches; has = new; newer = []; is = sym whole_is };
+    more = newer.0;
+    kept = whole_is ∙ newer.1;
+  }
+
+  pub flush_between : {new : Facts} → Flushing log now new → AllLeft now new (IsBetween durable history)
+  flush_between flush = weaker (flush.logs known.batches known.tail known.tails) between_either
+
+  pub read_between : {new : Facts} → Reading false true now new → AllLeft now new (IsBetween durable history)
+  read_between reads = weaker reads.time between_now
 
 -- ---- flushes
 
@@ -156,8 +179,8 @@ since_flushed {opened} known flush since =
       modelled = λ models. since.modelled (flush.writes.modelled models);
       content = keeps_then _ _ _ since.content flush.writes.content;
       crash = record { each = λ c now. comes c (flush.writes.crash.each c now) };
-      time = joined since.time (weaker (both_left flush.writes.time (flush.logs known.batches known.tail known.tails))
-          (λ c left. record { others = comes c left.0; front = front_of_either known c left.1 }));
+      time = joined since.time (weaker (both_left flush.writes.time (flush_between known flush))
+          (λ c left. record { others = comes c left.0; front = left.1.front }));
       counts = counts_then since.counts (counts_as flush.writes.counts);
     }
 
@@ -205,11 +228,14 @@ known_flushed {new = new} {log = log} {history = history} {durable = durable} kn
         record {
           batches = known.tail ∷ known.batches;
           tail = [];
-          are_batches = (known.are_batches, record {
-            records = tails.records;
-            range = subst (λ (n : ℕ). IsInRange n (length (spelling_all known.tail))) tails.gate_is
-                (subst (λ (l : List ℕ). IsInRange log.batch (length l)) tails.spelled (range some));
-          });
+          are_batches = (
+            known.are_batches,
+            record {
+              records = tails.records;
+              range = subst (λ (n : ℕ). IsInRange n (length (spelling_all known.tail))) tails.gate_is
+                  (subst (λ (l : List ℕ). IsInRange log.batch (length l)) tails.spelled (range some));
+            },
+          );
           tails = record {
             gate_is = gate_some log.batch log.tail some ∙ omega (arith, tails.gate_is, ap length tails.spelled);
             spelled = refl;
@@ -228,27 +254,28 @@ stands_flushed known flush since done range same = record { since = since_flushe
 
 -- ---- reads
 
-pub stands_read : {opened old new : Facts} {log : LogValue} {history durable : History} {is_known : Bool} → IsTrue is_known
+pub stands_read : {opened old new : Facts} {log : LogValue} {history durable : History} {is_known : Bool} → Known old log history durable
     → Reading false true old new → Standing opened old log history durable is_known → Standing opened new log history durable is_known
-stands_read {opened} {old} {new} {log} {history} {durable} sure reads stands =
+stands_read {opened} known reads stands =
     let since = stands.since in
-    let known = stands.known sure in
     record {
       since = record {
         modelled = λ models. since.modelled (reads.modelled models);
         content = subst (KeepsOthers Log opened.content) (sym reads.content) since.content;
         crash = record { each = λ c now. since.crash.each c (reads.crash.each c now) };
-        time = joined since.time (weaker reads.time (λ c now. record {
-          others = since.crash.each c now;
-          front = front_of_old known c (known.tails.logs c now);
-        }));
+        time = joined since.time (weaker reads.time (λ c now. record { others = since.crash.each c now; front = (between_now known c now).front }));
         counts = counts_then since.counts reads.counts;
       };
       known = λ sure. record {
         batches = known.batches;
         tail = known.tail;
         are_batches = known.are_batches;
-        tails = record { gate_is = known.tails.gate_is; spelled = known.tails.spelled; records = known.tails.records; logs = λ c now. known.tails.logs c (reads.crash.each c now) };
+        tails = record {
+          gate_is = known.tails.gate_is;
+          spelled = known.tails.spelled;
+          records = known.tails.records;
+          logs = λ c now. known.tails.logs c (reads.crash.each c now);
+        };
         durable_is = known.durable_is;
         history_is = known.history_is;
         synced = record { each = λ c now. known.synced.each c (reads.crash.each c now) ∙ ap (λ (image : Image). image Log) (sym reads.content) };

@@ -40,6 +40,12 @@ pub record HasFront (history : History) (c : Image) : Type 0 where
   pub newer : History
   pub is : history ≡ newer ++ acts_of_batches batches
 
+-- and all that is durable is of that history
+pub record IsBetween (durable history : History) (c : Image) : Type 0 where
+  pub front : HasFront history c
+  pub more : History
+  pub kept : acts_of_batches front.batches ≡ more ++ durable
+
 -- an image of the opening with another log, which has a history with which this one began
 pub record IsLeft (opened : Image → Type 0) (history : History) (c : Image) : Type 0 where
   pub others : ComesBy (KeepsOthers Log) opened c

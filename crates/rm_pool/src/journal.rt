@@ -3,13 +3,13 @@
 ghost use Rattle.std.specs.Prelude.{◌≡◌, ℕ, ◌+◌, ◌<◌, ◌≤◌, true, false, [], ◌∷◌, ◌++◌, length, IsTrue, IfOk, OnOk, OnErr, MatchResult, Err};
 ghost use Rattle.rm_types.specs.declared.areas.Area.{Area as Areas};
 ghost use Rattle.rm_types.specs.declared.numbers.TheConstants.{MAX_LOG};
-ghost use Rattle.rm_outside.specs.Calls.{FailsIn, IsSynced, OnlyReads, StoreFailsIn};
+ghost use Rattle.rm_outside.specs.Calls.{AtEachMoment, FailsIn, IsSynced, OnlyReads, StoreFailsIn};
 ghost use Rattle.rm_record.specs.Records.{spelling, IsRecord};
 ghost use Rattle.rm_history.specs.declared.TheConstants.{BATCH_HEADER, MAX_BATCH};
 ghost use Rattle.rm_history.specs.Acts.{act_at, acts_of};
 ghost use Rattle.rm_wal.specs.Attaching.{Attaches};
 ghost use Rattle.rm_wal.specs.Tails.{end_of};
-ghost use Rattle.rm_pool.specs.Journals.{HasNoRecordAt, IsRecordAt, Stands, flushed};
+ghost use Rattle.rm_pool.specs.Journals.{HasNoRecordAt, IsBetween, IsRecordAt, Stands, flushed};
 
 use rm_noted::Noted;
 use rm_outside::Volume;
@@ -161,6 +161,7 @@ impl<V: Volume> Journal<V> {
         ensures ok { OnOk result (self.new ≡ record self.old { volume = self.new.volume; log = flushed self.old.log; durable = self.old.history }) }
         ensures empty { self.old.log.tail ≡ [] → self.new ≡ self.old }
         ensures err { OnErr result ((self.new.opened ≡ self.old.opened) × (self.new.history ≡ self.old.history) × (self.new.durable ≡ self.old.durable) × (self.new.is_known ≡ false)) }
+        ensures images { AtEachMoment V.Volume self.old.volume self.new.volume (IsBetween self.old.durable self.old.history) }
         ensures cause { FailsIn V.Volume Area.Log self.old.opened self.new.volume result }
     {
         match self.log.flush(&mut self.volume) {
@@ -185,6 +186,7 @@ impl<V: Volume> Journal<V> {
         requires { IsTrue self.old.is_known }
         ensures found { IfOk result (λ found. V.models_content self.new.volume → IsRecordAt self.old.history lsn.0 found) }
         ensures damaged { (area : Areas) (at : ℕ) → result ≡ Err (StoreFault.Fault (Fault.Damaged area at)) → (area ≡ Area.Log) × (at ≡ lsn.0) × (V.models_content self.new.volume → HasNoRecordAt self.old.history lsn.0) }
+        ensures images { AtEachMoment V.Volume self.old.volume self.new.volume (IsBetween self.old.durable self.old.history) }
         ensures cause { StoreFailsIn V.Volume Area.Log self.old.opened self.new.volume result }
         ensures reads { OnlyReads V.Volume Area.Log self.old.volume self.new.volume }
         ensures same { self.new ≡ record self.old { volume = self.new.volume } }

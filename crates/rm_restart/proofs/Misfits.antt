@@ -1,18 +1,10 @@
 -- How the replay of a record goes on to that of all records.
 use Rattle.std.proofs.Common.{◌≡◌, inl, inr, ℕ, ◌+◌, ◌<◌, ◌≤◌, List, [], ◌∷◌, ◌++◌, length, get_or, take, drop, refl, sym, ap, subst, ◌∙◌, arith, suc}
-use Rattle.std.proofs.lemmas.Bool.{cases_lt, eq-eqb}
 use Rattle.std.proofs.lemmas.List.{append_assoc, length-take}
 use Rattle.std.proofs.Math.Seq.{split_at, take-suc}
-use Rattle.rm_types.specs.declared.numbers.Lsn.{Lsn}
-use Rattle.rm_types.specs.declared.numbers.Rid.{Rid}
-use Rattle.rm_types.specs.declared.numbers.TxnId.{TxnId}
-use Rattle.rm_types.specs.declared.slots.Slot.{Slot}
-use Rattle.rm_types.specs.declared.slots.Slot.TheVariants.{Row}
 use Rattle.rm_types.specs.declared.slots.TheConstants.{CAPACITY}
-use Rattle.rm_model.specs.Pages.{used, set_slot}
-use Rattle.rm_model.specs.Files.{page_at, slots_of}
+use Rattle.rm_model.specs.Pages.{used}
 use Rattle.rm_record.specs.declared.records.LogRecord.{LogRecord}
-use Rattle.rm_record.specs.declared.records.LogRecord.TheVariants.{Insert}
 use Rattle.rm_record.specs.declared.records.Logged.{Logged}
 use Rattle.rm_history.specs.Acts.{Act, History, changes, undoes, enters, commits, ends, marks, act_at, act_of, acts_onto, acts_of, lsn_of, newest_lsn}
 use Rattle.rm_history.specs.declared.TheConstants.{BATCH_HEADER}
@@ -26,7 +18,7 @@ use Rattle.rm_history.proofs.Readings.{spelling_long}
 use Rattle.rm_restart.specs.Plain.{IsPlain, ArePlain}
 use Rattle.rm_restart.specs.declared.replay.Replay.{Replay}
 use Rattle.rm_restart.specs.Opening.{IsMisfit, HasNoMisfit, IsMisfitAt}
-use Rattle.rm_restart.specs.Replaying.{AreRising, FitBefore, IsInsertAt, Replays, LacksPlace}
+use Rattle.rm_restart.specs.Replaying.{AreRising, FitBefore, Replays}
 
 -- a history has no more records that restart repeats than records
 repeats_few : (history : History) → repeat_count history ≤ length history
@@ -124,21 +116,3 @@ misfit_of_all pages records i logged replay inside is replays misfit =
       misfit = misfit;
       first = no_misfits pages (acts_of (take i records)) replays.below replays.plain replays.fits replays.fitted;
     }
-
--- a row that has no place there makes its insert a misfit
-lacks_place : (pages : ℕ) (history : History) (replay : Replay) (lsn : ℕ) (txn : TxnId) (under : Lsn) (rid : Rid) (need : ℕ) (row : List ℕ) → Replays pages history replay
-    → LacksPlace (slots_of replay.pages.items) rid (Insert txn under rid need row) → IsMisfit pages history (act_at lsn (Insert txn under rid need row))
-lacks_place pages history replay lsn txn under rid need row replays (inl outside) = inl (λ below. omega (arith, below, outside, replays.count))
-lacks_place pages history replay lsn txn under rid need row replays (inr over) = elim (cases_lt rid.page pages) [
-  | inl inside ↦
-      let there : page_of (act_at lsn (Insert txn under rid need row) ∷ history) rid.page ≡ set_slot (page_at (slots_of replay.pages.items) rid.page) rid.slot (Row row) =
-      rw (eq-eqb rid.page rid.page refl) (ap (λ (slots : List Slot). set_slot slots rid.slot (Row row)) (sym (replays.pages_are rid.page inside))) in
-      inr (inr (rid.page, subst (λ (slots : List Slot). CAPACITY < used slots) (sym there) over))
-  | inr past ↦ inl (λ below. omega (arith, below, past))
-]
-
-pub insert_misfits : (pages : ℕ) (history : History) (replay : Replay) (logged : Logged) (txn : TxnId) (rid : Rid) → IsInsertAt logged.what txn rid → Replays pages history replay
-    → LacksPlace (slots_of replay.pages.items) rid logged.what → IsMisfit pages history (act_of logged)
-insert_misfits pages history replay logged txn rid insert replays lacks =
-    subst (λ (what : LogRecord). IsMisfit pages history (act_at logged.lsn.0 what)) (sym insert.is)
-    (lacks_place pages history replay logged.lsn.0 txn insert.under rid insert.need insert.row replays (subst (LacksPlace (slots_of replay.pages.items) rid) insert.is lacks))
