@@ -3,11 +3,13 @@
 ghost use Rattle.std.specs.Prelude.{◌≡◌, ℕ, ◌+◌, ◌*◌, ◌/◌, ◌<◌, ◌≤◌, ◌⊎◌, [], ◌∷◌, length, replicate, option_copied, Some, None, IsSome, IfOk, IfErr, IfSome, OnOk, OnErr};
 ghost use Rattle.rm_types.specs.declared.numbers.TheConstants.{BLOCK_PAGES, MAX_PAGES};
 ghost use Rattle.rm_model.specs.Pages.{set_slot};
-ghost use Rattle.rm_history.specs.Acts.{act_at};
+ghost use Rattle.rm_record.specs.declared.records.LogRecord.{LogRecord as AnyRecord};
+ghost use Rattle.rm_history.specs.Acts.{History, act_at};
 ghost use Rattle.rm_history.specs.Contents.{slot_of};
 ghost use Rattle.rm_apply.specs.declared.answers.ApplyRefused.TheVariants as refused;
+ghost use Rattle.rm_apply.specs.Entries.{entered_by};
 ghost use Rattle.rm_apply.specs.Redo.{set_by, CannotHave};
-ghost use Rattle.rm_pool.specs.Frames.{AreFrames, IsPageOf, IsBlockOf, EachIs, blocks_for, IsForFixed, CannotTake, HasMemory, IsReadyFor, IsAfter, repeated};
+ghost use Rattle.rm_pool.specs.Frames.{AreFrames, IsPageOf, IsBlockOf, EachIs, blocks_for, IsForFixed, CannotTake, HasMemory, MaySet, MayEnter, IsReadyFor, IsAfter, repeated};
 
 use rm_apply::{ApplyRefused, category_entered_by, redo, redo_inventory, row_set_by, slot_set_by};
 use rm_inventory::Inventory;
@@ -130,6 +132,34 @@ fn set(page: &mut Page, number: u16, slot: Slot, spare: Option<Spare>, lsn: Lsn)
     }
 }
 
+// Sets what a record sets, if it sets a slot, in the page that it names.
+fn set_in(pages: &mut Vec<Page>, one: Option<(Rid, Slot)>, spare: Option<Spare>, lsn: Lsn)
+    requires { IfSome one (MaySet pages.old.items spare) }
+    ensures count { length pages.new.items ≡ length pages.old.items }
+    ensures set { (history : History) (what : AnyRecord) → set_by what ≡ one → EachIs (IsPageOf history) pages.old.items
+        → EachIs (IsPageOf (act_at lsn.0 what ∷ history)) pages.new.items }
+{
+    if let Some((rid, slot)) = one {
+        set(&mut pages[rid.page as usize], rid.slot, slot, spare, lsn);
+    }
+}
+
+// Enters what a record enters, if it enters a category, in the block that describes its page.
+fn enter(blocks: &mut Vec<Inventory>, one: Option<(u32, u8)>, lsn: Lsn)
+    requires { IfSome one (MayEnter blocks.old.items) }
+    ensures count { length blocks.new.items ≡ length blocks.old.items }
+    ensures entered { (history : History) (what : AnyRecord) → entered_by what ≡ one → EachIs (IsBlockOf history) blocks.old.items
+        → EachIs (IsBlockOf (act_at lsn.0 what ∷ history)) blocks.new.items }
+{
+    if let Some((page, category)) = one {
+        let block = &mut blocks[(page / BLOCK_PAGES) as usize];
+        let index = (page % BLOCK_PAGES) as u16;
+        // The block has that entry.
+        prove!(block.entry(index) <= MAX_CATEGORY);
+        block.set_entry(index, category, lsn);
+    }
+}
+
 impl Frames {
     /// The frames of a file of so many pages, to which no record was applied. No page and no block is fixed.
     ///
@@ -226,16 +256,8 @@ impl Frames {
         ensures { self.new ≡ record self.old { applied = act_at lsn.0 what ∷ self.old.applied } }
     {
         self.applied = Noted::of(&(&self.applied, lsn, &what));
-        if let Some((page, category)) = category_entered_by(&what) {
-            let block = &mut self.blocks[(page / BLOCK_PAGES) as usize];
-            let index = (page % BLOCK_PAGES) as u16;
-            // The block has that entry.
-            prove!(block.entry(index) <= MAX_CATEGORY);
-            block.set_entry(index, category, lsn);
-        } else if let Some((rid, slot)) = set_of(what) {
-            let page = &mut self.pages[rid.page as usize];
-            set(page, rid.slot, slot, spare, lsn);
-        }
+        enter(&mut self.blocks, category_entered_by(&what), lsn);
+        set_in(&mut self.pages, set_of(what), spare, lsn);
     }
 
     /// Repeats a record of the log at a restart: fixes the page or the block that it names, and applies it. Its row is
