@@ -7,4 +7,4 @@
 mod changes;
 mod undoing;
 
-pub use undoing::{Undone, undo_change, undo_settle};
+pub use changes::change_at;
