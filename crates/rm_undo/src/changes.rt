@@ -1,11 +1,9 @@
 //! Which change is to be undone.
 
-ghost use Rattle.std.specs.Prelude.{◌≡◌, ◌<◌, ◌≤◌, ℕ, ◌⊎◌, Err, IfOk, IsTrue};
-ghost use Rattle.rm_types.specs.declared.areas.Area.{Area as Areas};
+ghost use Rattle.std.specs.Prelude.{◌≡◌, ◌<◌, IfErr, IfOk, IsTrue};
 ghost use Rattle.rm_outside.specs.Calls.{StoreFailsIn};
-ghost use Rattle.rm_history.specs.Acts.{Change};
 ghost use Rattle.rm_pool.specs.Stores.{on_volume};
-ghost use Rattle.rm_undo.specs.Changes.{HasChangeAt, IsOf, change_in};
+ghost use Rattle.rm_undo.specs.Changes.{IsAstray, IsDamageAt, IsOf, MayGoBack, OfChange, change_in};
 
 use rm_outside::Volume;
 use rm_pool::Store;
@@ -13,8 +11,8 @@ use rm_record::LogRecord;
 use rm_types::{Area, Fault, Lsn, Rid, Slot, StoreFault, TxnId};
 use std::alloc::Global;
 
-// What of a change its undo asks for: its transaction, the pending record below it, the row id, what was reserved before
-// it, and what the slot held.
+/// What of a change its undo asks for: its transaction, the pending record below it, the row id, the bytes that were
+/// reserved for the transaction on the page before it, and what the slot held.
 #[derive(Drop)]
 pub struct Pending {
     pub txn: TxnId,
@@ -87,12 +85,12 @@ pub fn change_at<V: Volume>(
     lsn: Lsn,
 ) -> Result<Pending, StoreFault>
     requires { IsTrue store.old.journal.is_known }
-    ensures found { IfOk result (λ pending. V.models_content store.new.journal.volume → (c : Change) → HasChangeAt store.old.journal.history txn.0 lsn.0 c → IsOf c pending) }
+    ensures found { IfOk result (λ pending. OfChange (V.models_content store.new.journal.volume) store.old.journal.history txn lsn (λ c. IsOf c pending)) }
     ensures txn { IfOk result (λ pending. pending.txn ≡ txn) }
     ensures under { IfOk result (λ pending. pending.under.0 < lsn.0) }
     ensures inside { IfOk result (λ pending. pending.rid.page < store.old.frames.size) }
-    ensures damaged { (area : Areas) (at : ℕ) → result ≡ Err (StoreFault.Fault (Fault.Damaged area at)) → (area ≡ Area.Log) × (at ≡ lsn.0)
-        × (V.models_content store.new.journal.volume → (c : Change) → HasChangeAt store.old.journal.history txn.0 lsn.0 c → (lsn.0 ≤ c.under) ⊎ (store.old.frames.size ≤ c.rid.page)) }
+    ensures back { IfOk result MayGoBack }
+    ensures damaged { IfErr result (IsDamageAt lsn (OfChange (V.models_content store.new.journal.volume) store.old.journal.history txn lsn (IsAstray lsn store.old.frames.size))) }
     ensures cause { StoreFailsIn V.Volume Area.Log store.old.journal.opened store.new.journal.volume result }
     ensures same { store.new ≡ on_volume store.old store.new.journal.volume }
 {

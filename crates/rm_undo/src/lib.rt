@@ -7,4 +7,5 @@
 mod changes;
 mod undoing;
 
-pub use changes::change_at;
+pub use changes::{Pending, change_at};
+pub use undoing::{Undone, undo_change, undo_settle};
