@@ -1,13 +1,18 @@
 -- The change that a record makes is that of its act.
-use Rattle.std.proofs.Common.{◌≡◌, ℕ, ◌≤◌, subst, Option, Some, None, IfSome, IsSomeAnd}
-use Rattle.rm_types.specs.declared.numbers.TheConstants.{MAX_SLOT}
+use Rattle.std.proofs.Common.{◌≡◌, ℕ, refl, sym, subst, Option, Some, None, IfSome, IsSomeAnd, Result, Ok, Err, IfErr, IsErrAnd}
+use Rattle.rm_types.specs.declared.areas.Area.{Area}
+use Rattle.rm_types.specs.declared.areas.Area.TheVariants.{Log}
+use Rattle.rm_types.specs.declared.faults.Fault.TheVariants as fault
+use Rattle.rm_types.specs.declared.faults.StoreFault.{StoreFault}
+use Rattle.rm_types.specs.declared.faults.StoreFault.TheVariants as store
+use Rattle.rm_types.specs.declared.numbers.Lsn.{Lsn}
 use Rattle.rm_record.specs.declared.records.LogRecord.{LogRecord}
 use Rattle.rm_record.specs.declared.records.LogRecord.TheVariants.{Insert, Delete, Update, Compensate, Inventory, Commit, End, Checkpoint}
 use Rattle.rm_record.specs.Records.{IsRecord, IsSlot}
 use Rattle.rm_history.specs.Acts.{Act, Change, History, act_at, changes, undoes, enters, commits, ends, marks}
 use Rattle.rm_pool.specs.Journals.{IsRecordAt, HasNoRecordAt}
 use Rattle.rm_undo.specs.declared.changes.Pending.{Pending}
-use Rattle.rm_undo.specs.Changes.{HasChangeAt, IsOf, change_in, MayGoBack}
+use Rattle.rm_undo.specs.Changes.{HasChangeAt, IsDamageAt, IsOf, MayGoBack, change_in}
 
 -- a change of that act
 made : (lsn : ℕ) (found : LogRecord) (c : Change) → act_at lsn found ≡ changes c → IsSomeAnd (change_in found) (IsOf c)
@@ -35,3 +40,23 @@ goes_back (Inventory txn page category) is = tt
 goes_back (Commit txn) is = tt
 goes_back (End txn) is = tt
 goes_back (Checkpoint next losers pages blocks) is = tt
+
+-- a damage, from what is said of each answer
+pub damage_of : {T : Type 0} (lsn : Lsn) {Why : Type 0} (stored : StoreFault)
+    → ((area : Area) (at : ℕ) → (let outcome : Result T StoreFault = Err stored in outcome ≡ Err (store.Fault (fault.Damaged area at))) → (area ≡ Log) × (at ≡ lsn.0) × Why)
+    → IsDamageAt lsn Why stored
+damage_of lsn (store.Fault (fault.Damaged area at)) each = each area at refl
+damage_of lsn (store.Fault (fault.Volume area)) each = tt
+damage_of lsn store.NoMemory each = tt
+
+-- one for a reason that follows
+pub damage_for : (lsn : Lsn) {Why More : Type 0} (stored : StoreFault) → (Why → More) → IsDamageAt lsn Why stored → IsDamageAt lsn More stored
+damage_for lsn (store.Fault (fault.Damaged area at)) so is = (is.0, is.1, so is.2)
+damage_for lsn (store.Fault (fault.Volume area)) so is = tt
+damage_for lsn store.NoMemory so is = tt
+
+-- one that is passed on
+pub passed : {T : Type 0} (lsn : Lsn) {Why More : Type 0} (result : Result T StoreFault) (stored : StoreFault) → IsErrAnd result (λ given. given ≡ stored)
+    → IsDamageAt lsn Why stored → (Why → More) → IfErr result (IsDamageAt lsn More)
+passed lsn (Ok value) stored given is so = tt
+passed lsn {More = More} (Err given) stored same is so = subst (IsDamageAt lsn More) (sym same) (damage_for lsn stored so is)

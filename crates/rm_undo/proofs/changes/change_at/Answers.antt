@@ -4,13 +4,14 @@ use Rattle.rm_types.specs.declared.numbers.Rid.{Rid}
 use Rattle.rm_pool.specs.Stores.{StoreValue}
 use Rattle.rm_undo.specs.declared.changes.Pending.{Pending}
 use Rattle.rm_undo.specs.Changes.{IsOf, MayGoBack}
-use Rattle.rm_undo.proofs.ChangeLaws.{made_at, goes_back}
+use Rattle.rm_undo.proofs.ChangeLaws.{damage_of, goes_back, made_at, passed}
 use Rattle.rm_undo.proofs.changes.change_at.Goals as goal
 use Rattle.rm_undo.proofs.changes.change_at.Goals.{then-ne-via-then-ne, then-ne-via-else-ne+then-ge, then-ne-via-else-ne+else-ge+then-pending-size}
 
 pub returns-in_err-found-clause-damaged : goal.returns-in_err-found-clause-damaged
 returns-in_err-found-clause-damaged g c =
-    let x = c.from_residual.ensures in ?
+    passed c.args.lsn c.from_residual.result c.in_err-found.field-0.0 c.from_residual.ensures.1
+    (damage_of c.args.lsn c.in_err-found.field-0.0 c.in_err-found.ensures.damaged) (λ none models change has. absurd (none models _ has.is_in has.lsn_is))
 
 pub returns-in_default-clause-damaged : goal.returns-in_default-clause-damaged
 returns-in_default-clause-damaged g c = rw c.damaged.ensures (
