@@ -1,5 +1,6 @@
 -- What is acknowledged is in the order of commits, and durable.
-use Rattle.rm_core.specs.Below.{◌≡◌, ℕ, List, [], ◌∷◌, Option, Some, None, Act, History, lists, marks, Seen}
+use Rattle.std.specs.Prelude.{◌≡◌, ℕ, List, [], ◌∷◌, Option, Some, None}
+use Rattle.rm_core.specs.Below.{Act, History, lists, marks, Seen}
 use Rattle.rm_core.specs.Names.{IsForcedFor, IsDurable, effect, logging, Event, event_of, AcknowledgedIsDurable, order_of, IsAmong, IsAcknowledged, committed}
 use Rattle.rm_core.specs.Names.{Machine, IsRun, seens_of}
 use Rattle.rm_core.proofs.Names.{inl, inr, subst}

@@ -1,5 +1,6 @@
 -- What an unfinished transaction was told is what one user alone may be told, and what it changed is what is pending.
-use Rattle.rm_core.specs.Below.{◌≡◌, ◌⊎◌, ℕ, ◌<◌, ◌≤◌, true, false, List, [], ◌∷◌, length, Option, Some, None, Format, Rid, Slot, Vacant, Row, row_of, row_at}
+use Rattle.std.specs.Prelude.{◌≡◌, ◌⊎◌, ℕ, ◌<◌, ◌≤◌, true, false, List, [], ◌∷◌, length, Option, Some, None}
+use Rattle.rm_core.specs.Below.{Format, Rid, Slot, Vacant, Row, row_of, row_at}
 use Rattle.rm_core.specs.Below.{slot_at, Rows, is_same_place, Act, Change, Undo, History, changes, undoes, commits, ends, newest_lsn, page_of, pending_of}
 use Rattle.rm_core.specs.Below.{last_of, IsFinished, HasRecord, with_slot, applied, rows_of_log, IsInOrder, undo_for, Op}
 use Rattle.rm_history.specs.Laws.{IsChanged}

@@ -1,5 +1,6 @@
 -- What holds of an opened machine, and is kept with each event and each closed operation, holds of each run.
-use Rattle.rm_core.specs.Below.{◌≡◌, ℕ, ◌<◌, List, [], ◌∷◌, length, None, Listing, IsInOrder, Actor, Checkpoint, Seen}
+use Rattle.std.specs.Prelude.{◌≡◌, ℕ, ◌<◌, List, [], ◌∷◌, length, None}
+use Rattle.rm_core.specs.Below.{Listing, IsInOrder, Actor, Checkpoint, Seen}
 use Rattle.rm_core.specs.Names.{after, Event, event_of, Setting, again, log_full, spent, closed, appended, MayRest, Move, turns, answered, appends}
 use Rattle.rm_core.specs.Names.{append_refused, rests, Moves, HasRoomFor, Opening, IsOpening, opened, Machine, IsRun, traced, Seat, State, seat_at, Turn}
 use Rattle.rm_core.proofs.Names.{inl, inr, set, refl, sym, subst, cases_eq, legal_is_in_order}

@@ -1,5 +1,6 @@
 -- An operation that is refused for want of room in the log is closed: what is known stays.
-use Rattle.rm_core.specs.Below.{◌≡◌, ℕ, ◌<◌, length, Format}
+use Rattle.std.specs.Prelude.{◌≡◌, ℕ, ◌<◌, length}
+use Rattle.rm_core.specs.Below.{Format}
 use Rattle.rm_core.specs.Names.{after, goes_to, staged, with_effect, Kept, May, Setting, closed, Lacks, IsRefused, Stage, idle, tries, sets, State, seat_at}
 use Rattle.rm_core.specs.Names.{Turn, begin, insert, alter}
 use Rattle.rm_core.proofs.Names.{sym, ap, subst, ◌∙◌}

@@ -1,5 +1,6 @@
 -- A session gets a transaction, and lets it go.
-use Rattle.rm_core.specs.Below.{◌≡◌, ℕ, ◌+◌, ◌<◌, [], ◌∷◌, length, Option, Some, None, Format, Act, Finish, ends, pending_of, IsFinished, IsLegal}
+use Rattle.std.specs.Prelude.{◌≡◌, ℕ, ◌+◌, ◌<◌, [], ◌∷◌, length, Option, Some, None}
+use Rattle.rm_core.specs.Below.{Format, Act, Finish, ends, pending_of, IsFinished, IsLegal}
 use Rattle.rm_history.proofs.Rollbacks.{HasEnded, has_ended}
 use Rattle.rm_core.specs.Names.{Effect, logging, with_effect, IsOver, Seated, Kept, released, Latches, Outcome, IsNext, Stage, idle, finishes, undoes_all}
 use Rattle.rm_core.specs.Names.{rolls, Seat, State, seat_at, empty_seat}

@@ -1,5 +1,6 @@
 -- The row locks: what one more leaves of them, and what is left of them where a transaction lets its own go.
-use Rattle.rm_core.specs.Below.{◌≡◌, ℕ, ◌&&◌, Bool, true, false, IsTrue, List, [], ◌∷◌, Rid, is_same_place}
+use Rattle.std.specs.Prelude.{◌≡◌, ℕ, ◌&&◌, Bool, true, false, IsTrue, List, [], ◌∷◌}
+use Rattle.rm_core.specs.Below.{Rid, is_same_place}
 use Rattle.rm_core.specs.Names.{is_same, is_grant, has_it, joined, released, Blocks, HasGrant, HoldsAlone, Grant}
 use Rattle.rm_core.proofs.Names.{inl, inr, eqb, refl, sym, subst, ◌∙◌, cases_eq, eqb-true, and_parts, cond_both, same_place}
 

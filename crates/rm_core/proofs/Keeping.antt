@@ -1,5 +1,6 @@
 -- Every turn keeps what holds, and leaves the log the room that is kept.
-use Rattle.rm_core.specs.Below.{◌≡◌, ℕ, ◌+◌, ◌<◌, ◌≤◌, true, false, List, ◌∷◌, length, Option, Some, None, Format, Row, sum_below, Act, Change, History, Undo}
+use Rattle.std.specs.Prelude.{◌≡◌, ℕ, ◌+◌, ◌<◌, ◌≤◌, true, false, List, ◌∷◌, length, Option, Some, None}
+use Rattle.rm_core.specs.Below.{Format, Row, sum_below, Act, Change, History, Undo}
 use Rattle.rm_core.specs.Below.{Entry, Finish, undoes, enters, commits, pending_of, entry_for, undo_for}
 use Rattle.rm_core.specs.Names.{Effect, save_of, entry_now, latched, effect, after, goes_to, logging, with_effect, Locked, Kept, Wants, IsSeated, May, Step}
 use Rattle.rm_core.specs.Names.{closed, aborted, died, bytes_for, claims_at, claim_of, owed, claims, HasRoomFor, HasRoom, end_of, Savepoint, undoes_all}

@@ -1,5 +1,6 @@
 -- What each turn keeps that logs a record and leaves the session its transaction.
-use Rattle.rm_core.specs.Below.{◌≡◌, ◌⊎◌, ℕ, ◌<◌, true, List, ◌∷◌, Some, Format, Rid, Slot, Vacant, Row, slot_at, category_of, Act, Change, Undo, Entry, Finish}
+use Rattle.std.specs.Prelude.{◌≡◌, ◌⊎◌, ℕ, ◌<◌, true, List, ◌∷◌, Some}
+use Rattle.rm_core.specs.Below.{Format, Rid, Slot, Vacant, Row, slot_at, category_of, Act, Change, Undo, Entry, Finish}
 use Rattle.rm_core.specs.Below.{History, changes, undoes, enters, commits, newest_lsn, page_of, pending_of, IsFinished, HasChange, Fits, MayEnter, IsEntry}
 use Rattle.rm_core.specs.Below.{EntriesFollow, IsLegal, entry_for, undo_for}
 use Rattle.rm_history.specs.UndoLaws.{IsUndone}

@@ -1,5 +1,6 @@
 -- What a session's turn keeps, whatever the turn is.
-use Rattle.rm_core.specs.Below.{◌≡◌, ◌⊎◌, ℕ, ◌<◌, ◌≤◌, List, length, Format, Rid, Slot, set_slot, category_of, Change, History, pending_of, IsFinished}
+use Rattle.std.specs.Prelude.{◌≡◌, ◌⊎◌, ℕ, ◌<◌, ◌≤◌, List, length}
+use Rattle.rm_core.specs.Below.{Format, Rid, Slot, set_slot, category_of, Change, History, pending_of, IsFinished}
 use Rattle.rm_core.specs.Below.{HasChange, IsLegal}
 use Rattle.rm_core.specs.Names.{Effect, logging, goes_to, with_effect, target_at, Owes, Readies, Locked, HeadOn, Seated, IsRight, Kept, HoldsAlone, Latches}
 use Rattle.rm_core.specs.Names.{Looks, Stage, idle, reads, fetches, alters, sets, tries, settles, prepares, compensates, Seat, Grant, State, seat_at}

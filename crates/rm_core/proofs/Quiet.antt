@@ -1,5 +1,6 @@
 -- Turns that leave the session its transaction.
-use Rattle.rm_core.specs.Below.{◌≡◌, ◌⊎◌, ℕ, ◌+◌, ◌<◌, List, ◌∷◌, length, Option, None, Format, Rid, Act, Change, History, entry_of, pending_of, IsFinished}
+use Rattle.std.specs.Prelude.{◌≡◌, ◌⊎◌, ℕ, ◌+◌, ◌<◌, List, ◌∷◌, length, Option, None}
+use Rattle.rm_core.specs.Below.{Format, Rid, Act, Change, History, entry_of, pending_of, IsFinished}
 use Rattle.rm_core.specs.Below.{HasChange, IsLegal, category_after}
 use Rattle.rm_core.specs.Names.{Effect, logging, with_effect, target_at, Owes, IsOver, Heads, Readies, Locked, HeadOn, Seated, IsRight, Kept, HoldsAlone}
 use Rattle.rm_core.specs.Names.{Latches, Looks, claims_at, Savepoint, target_of, Stage, idle, seeks, wants, reads, alters, settles, forces, finishes, rolls}

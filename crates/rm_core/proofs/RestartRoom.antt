@@ -1,5 +1,6 @@
 -- Restart's undo of each prefix of a run's log has room, since the sessions' claims cover it.
-use Rattle.rm_core.specs.Below.{◌≡◌, ◌⊎◌, ℕ, zero, suc, ◌+◌, ◌<◌, ◌≤◌, ◌==◌, if◌then◌else◌, List, [], ◌∷◌, ◌++◌, length, Option, Some, None, Format, row_length}
+use Rattle.std.specs.Prelude.{◌≡◌, ◌⊎◌, ℕ, zero, suc, ◌+◌, ◌<◌, ◌≤◌, ◌==◌, if◌then◌else◌, List, [], ◌∷◌, ◌++◌, length, Option, Some, None}
+use Rattle.rm_core.specs.Below.{Format, row_length}
 use Rattle.rm_core.specs.Below.{sum_below, BATCH_HEADER, Act, Change, Undo, Finish, History, commits, ends, lists, marks, lsn_of, pending_of, of_txn, without}
 use Rattle.rm_core.specs.Below.{all_pending, IsInOrder, IsFinished, HasRecord, compensate_record, bytes_of, entry_bytes, with_undo, undoing_bytes, ending_bytes}
 use Rattle.rm_core.specs.Below.{undo_bytes, category_after, undo_for, entry_of}

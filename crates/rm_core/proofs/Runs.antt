@@ -1,5 +1,6 @@
 -- What holds at an opening and is kept by each move holds of each run.
-use Rattle.rm_core.specs.Below.{◌≡◌, ℕ, zero, suc, List, [], ◌∷◌, length, replicate, Format, sum_below, Listing, History}
+use Rattle.std.specs.Prelude.{◌≡◌, ℕ, zero, suc, List, [], ◌∷◌, length, replicate}
+use Rattle.rm_core.specs.Below.{Format, sum_below, Listing, History}
 use Rattle.rm_core.specs.Names.{Event, Locked, Seated, Kept, MovesRun, RunsAreKept, Latches, Setting, again, log_full, spent, MayAppend, appended, Move, turns}
 use Rattle.rm_core.specs.Names.{answered, appends, append_refused, rests, Moves, claim_of, Opening, IsOpening, opened, Machine, Runs, IsRun, started, moved}
 use Rattle.rm_core.specs.Names.{Seat, State, seat_at, empty_seat}

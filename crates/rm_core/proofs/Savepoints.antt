@@ -1,5 +1,6 @@
 -- A transaction's savepoints: each stands for the rows that its changes up to an LSN make.
-use Rattle.rm_core.specs.Below.{◌≡◌, ℕ, ◌<◌, ◌≤◌, List, [], ◌∷◌, Rid, Rows, Change, last_of, applied}
+use Rattle.std.specs.Prelude.{◌≡◌, ℕ, ◌<◌, ◌≤◌, List, [], ◌∷◌}
+use Rattle.rm_core.specs.Below.{Rid, Rows, Change, last_of, applied}
 use Rattle.rm_core.specs.Names.{Savepoint, dropped, upto, HasNumber, value_at}
 use Rattle.rm_core.proofs.Names.{inl, inr, cond, ltb, refl, sym, ap, ◌∙◌, arith, cases_eq, lt-ltb, le-ltb, eq-eqb, ne_eqb}
 

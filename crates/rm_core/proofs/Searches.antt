@@ -1,5 +1,6 @@
 -- An insert is told that there is no space where each page was handled, and a read what the slot holds.
-use Rattle.rm_core.specs.Below.{◌≡◌, ℕ, suc, List, [], ◌∷◌, Some, History, Session}
+use Rattle.std.specs.Prelude.{◌≡◌, ℕ, suc, List, [], ◌∷◌, Some}
+use Rattle.rm_core.specs.Below.{History, Session}
 use Rattle.rm_core.specs.Names.{Event, no_space, Machine, IsRun, seens_of, EndsSearch, NoSpaceIsExact, ReadsAreExact}
 use Rattle.rm_core.proofs.Names.{refl, sym, subst, eq-eqb}
 use Rattle.rm_core.proofs.Along.{setting_of, seat_of, kept_along}

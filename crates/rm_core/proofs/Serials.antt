@@ -1,5 +1,6 @@
 -- Every run is serial: the committed transactions one after the other, in the order of their commits, and each unfinished one after them.
-use Rattle.rm_core.specs.Below.{◌≡◌, ◌⊎◌, ℕ, zero, suc, ◌+◌, ◌-◌, ◌<◌, List, [], ◌∷◌, ◌++◌, length, map, drop, Option, Some, None, Format, Rid, Rows, Act}
+use Rattle.std.specs.Prelude.{◌≡◌, ◌⊎◌, ℕ, zero, suc, ◌+◌, ◌-◌, ◌<◌, List, [], ◌∷◌, ◌++◌, length, map, drop, Option, Some, None}
+use Rattle.rm_core.specs.Below.{Format, Rid, Rows, Act}
 use Rattle.rm_core.specs.Below.{Finish, History, commits, lists, marks, pending_of, applied, rows_of_log, Session, Flush, Clean, Checkpoint, Copy, Actor, Seen}
 use Rattle.rm_core.specs.Names.{logging, effect, after, Event, event_of, RunsAreSerial, May, IsSeated, Step, Answer, again, log_full, spent, Answers, MayRest}
 use Rattle.rm_core.specs.Names.{Move, turns, answered, appends, append_refused, rests, Moves, single_after, Allowed, rows_through, AllAllowed, onto, ops_of}

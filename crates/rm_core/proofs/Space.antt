@@ -1,5 +1,6 @@
 -- What a session may still log is within what it owes, and a record of another transaction leaves it as it is.
-use Rattle.rm_core.specs.Below.{◌≡◌, ℕ, ◌≤◌, List, length, Change, History, pending_of}
+use Rattle.std.specs.Prelude.{◌≡◌, ℕ, ◌≤◌, List, length}
+use Rattle.rm_core.specs.Below.{Change, History, pending_of}
 use Rattle.rm_core.specs.Names.{bytes_for, owes_at, claims_at, owed_by, claim_of, owed, claims, Stage, settles, forces, finishes, compensates, Seat, State}
 use Rattle.rm_core.specs.Names.{seat_at}
 use Rattle.rm_core.proofs.Names.{inl, inr, cond, eqb, refl, ap, arith, cases_eq, eq-eqb, ne_eqb, sum_below-less}

@@ -1,5 +1,6 @@
 -- What a session's stage says of its turns, of the trace and of the log, along a run.
-use Rattle.rm_core.specs.Below.{◌≡◌, ◌⊎◌, ℕ, suc, ◌+◌, ◌*◌, ◌/◌, ◌<◌, ◌≤◌, Bool, true, false, List, [], ◌∷◌, length, Option, Some, None, Format, BLOCK_PAGES}
+use Rattle.std.specs.Prelude.{◌≡◌, ◌⊎◌, ℕ, suc, ◌+◌, ◌*◌, ◌/◌, ◌<◌, ◌≤◌, Bool, true, false, List, [], ◌∷◌, length, Option, Some, None}
+use Rattle.rm_core.specs.Below.{Format, BLOCK_PAGES}
 use Rattle.rm_core.specs.Below.{Row, Vacant, slot_at, Act, Change, History, commits, lists, marks, lsn_of, newest_lsn, page_of, pending_of, IsLast, IsInOrder}
 use Rattle.rm_core.specs.Below.{entry_for, undo_for, Actor, Session, Flush, Clean, Checkpoint, Copy, Seen}
 use Rattle.rm_core.specs.Names.{IsLogged, IsDurable, Effect, change_of, setting, entry_now, effect, logging, latched, staged, after, Event, tried_of, seen_of}

@@ -1,5 +1,6 @@
 -- What each turn keeps that logs nothing and leaves the session its transaction.
-use Rattle.rm_core.specs.Below.{◌≡◌, ◌⊎◌, ℕ, ◌<◌, true, false, List, ◌∷◌, None, Format, Rid, Slot, Change, entry_of, pending_of, category_after}
+use Rattle.std.specs.Prelude.{◌≡◌, ◌⊎◌, ℕ, ◌<◌, true, false, List, ◌∷◌, None}
+use Rattle.rm_core.specs.Below.{Format, Rid, Slot, Change, entry_of, pending_of, category_after}
 use Rattle.rm_core.specs.Names.{latched, with_grant, target_at, Heads, IsOver, Locked, HeadOn, IsRight, HasGrant, HoldsAlone, Latches, Looks, Wants, MayLatch}
 use Rattle.rm_core.specs.Names.{IsReading, Outcome, Scans, Aim, target_of, Stage, idle, seeks, wants, tries, reads, fetches, alters, sets, settles, forces}
 use Rattle.rm_core.specs.Names.{finishes, rolls, prepares, compensates, Seat, State, seat_at}

@@ -1,5 +1,6 @@
 -- The trace of a run tells its log.
-use Rattle.rm_core.specs.Below.{ℕ, List, ◌∷◌, Format, Slot, Row, Vacant, Act, History, changes, undoes, enters, commits, ends, lists, marks, entry_for}
+use Rattle.std.specs.Prelude.{ℕ, List, ◌∷◌}
+use Rattle.rm_core.specs.Below.{Format, Slot, Row, Vacant, Act, History, changes, undoes, enters, commits, ends, lists, marks, entry_for}
 use Rattle.rm_core.specs.Below.{undo_for, Seen}
 use Rattle.rm_core.specs.Names.{change_of, setting, entry_now, after, Event, TracesTellLogs, TellsLog, May, seens_of, Seat, State, Turn, insert, alter, settled}
 use Rattle.rm_core.specs.Names.{settle, commit, prepare, compensate, end}

@@ -1,5 +1,6 @@
 -- No undo lacks space in its row's own page.
-use Rattle.rm_core.specs.Below.{◌+◌, newest_lsn}
+use Rattle.std.specs.Prelude.{◌+◌}
+use Rattle.rm_core.specs.Below.{newest_lsn}
 use Rattle.rm_core.specs.Names.{UndoHasSpace}
 use Rattle.rm_core.proofs.Names.{arith, last_is_unfinished, undoes_are_in_order}
 use Rattle.rm_core.proofs.Along.{run_in_order}

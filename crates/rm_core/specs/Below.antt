@@ -1,9 +1,4 @@
 -- The names of the crates below, in one place for this crate and those that stand on it.
-pub use Rattle.std.specs.Bool.{Decides}
-pub use Rattle.std.specs.Option.{unwrap_or}
-pub use Rattle.std.specs.Prelude.{Bool, IsTrue, List, None, Option, Some, [], drop, false, if◌then◌else◌, is_some, length, map, max, min, nat_le, nat_lt, not}
-pub use Rattle.std.specs.Prelude.{option_map, replicate, slice_index_or, slice_set, suc, true, zero, ℕ, ◌&&◌, ◌*◌, ◌++◌, ◌+◌, ◌-◌, ◌/◌, ◌<◌, ◌==◌, ◌^◌, ◌||◌}
-pub use Rattle.std.specs.Prelude.{◌∷◌, ◌≡◌, ◌≤◌, ◌⊎◌}
 pub use Rattle.rm_types.specs.Formats.{blocks_of, category_bytes}
 pub use Rattle.rm_types.specs.declared.formats.Format.{Format}
 pub use Rattle.rm_types.specs.declared.numbers.Rid.{Rid}

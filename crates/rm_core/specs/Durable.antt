@@ -1,5 +1,6 @@
 -- A transaction whose commit record is durable.
-use Rattle.rm_core.specs.Below.{◌≡◌, ℕ, ◌<◌, List, [], ◌∷◌, ◌⊎◌, Act, History, commits}
+use Rattle.std.specs.Prelude.{◌≡◌, ℕ, ◌<◌, List, [], ◌∷◌, ◌⊎◌}
+use Rattle.rm_core.specs.Below.{Act, History, commits}
 use Rattle.rm_core.specs.Events.{Event}
 use Rattle.rm_core.specs.Orders.{order_of, IsAmong}
 use Rattle.rm_events.specs.declared.events.Seen.TheVariants as sees

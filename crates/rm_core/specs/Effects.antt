@@ -1,5 +1,6 @@
 -- What a turn leaves: at most one record, the locks, the session's seat, and the next id.
-use Rattle.rm_core.specs.Below.{ℕ, ◌+◌, Bool, true, false, List, [], ◌∷◌, Option, Some, None, slice_set, Format, Rid, Slot, Vacant, Row, slot_at, category_of}
+use Rattle.std.specs.Prelude.{ℕ, ◌+◌, Bool, true, false, List, [], ◌∷◌, Option, Some, None, slice_set}
+use Rattle.rm_core.specs.Below.{Format, Rid, Slot, Vacant, Row, slot_at, category_of}
 use Rattle.rm_core.specs.Below.{Act, Change, Entry, History, changes, undoes, enters, commits, ends, page_of, pending_of, last_of, need_of, entry_for, undo_for}
 use Rattle.rm_core.specs.Locks.{joined, released}
 use Rattle.rm_core.specs.Outcomes.{inserted, altered, died, aborted}

@@ -1,5 +1,6 @@
 -- What a turn's event tells.
-use Rattle.rm_core.specs.Below.{ℕ, suc, false, length, Option, Some, None, Rid, used, page_of, need_of, others_need, Actor, Session, Seen}
+use Rattle.std.specs.Prelude.{ℕ, suc, false, length, Option, Some, None}
+use Rattle.rm_core.specs.Below.{Rid, used, page_of, need_of, others_need, Actor, Session, Seen}
 use Rattle.rm_core.specs.Outcomes.{Outcome, began, no_space, saw, missed, full, saved, no_save, back_to, committed, skipped, refused, unbound}
 use Rattle.rm_core.specs.State.{Seat, State, seat_at}
 use Rattle.rm_core.specs.Turns.{Turn, skip, unname, refuse, begin, scan, scan_last, latch, try, try_last, insert, lock, lock_alone, wait, die, fetch, miss}

@@ -1,5 +1,6 @@
 -- What every turn of the core keeps.
-use Rattle.rm_core.specs.Below.{◌≡◌, ℕ, ◌<◌, List, ◌∷◌, ◌⊎◌, Format, Rid, Change, History, category_of, page_of, entry_of, pending_of, IsFinished, HasRecord}
+use Rattle.std.specs.Prelude.{◌≡◌, ℕ, ◌<◌, List, ◌∷◌, ◌⊎◌}
+use Rattle.rm_core.specs.Below.{Format, Rid, Change, History, category_of, page_of, entry_of, pending_of, IsFinished, HasRecord}
 use Rattle.rm_core.specs.Below.{HasChange, IsLegal, category_after}
 use Rattle.rm_core.specs.Locks.{HasGrant, HoldsAlone, Latches, Looks}
 use Rattle.rm_core.specs.State.{target_of, Stage, idle, reads, fetches, alters, sets, settles, forces, finishes, prepares, compensates, Seat, Grant, State}

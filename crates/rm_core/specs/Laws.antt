@@ -1,5 +1,6 @@
 -- What holds of each run of the machine.
-use Rattle.rm_core.specs.Below.{◌≡◌, ℕ, ◌+◌, ◌≤◌, [], ◌∷◌, ◌++◌, Rid, BATCH_HEADER, Change, History, undoes, rows_of_log, IsLast, Fits, undo_bytes, undo_for}
+use Rattle.std.specs.Prelude.{◌≡◌, ℕ, ◌+◌, ◌≤◌, [], ◌∷◌, ◌++◌}
+use Rattle.rm_core.specs.Below.{Rid, BATCH_HEADER, Change, History, undoes, rows_of_log, IsLast, Fits, undo_bytes, undo_for}
 use Rattle.rm_core.specs.Durable.{IsDurable}
 use Rattle.rm_core.specs.Kept.{IsOver, Kept}
 use Rattle.rm_core.specs.Logging.{TellsLog}

@@ -1,5 +1,6 @@
 -- The row locks, and the latches that stages hold.
-use Rattle.rm_core.specs.Below.{◌≡◌, ℕ, ◌≤◌, ◌<◌, IsTrue, ◌==◌, ◌&&◌, if◌then◌else◌, Bool, true, false, List, [], ◌∷◌, ◌⊎◌, Rid, MAX_SLOT, is_same_place, Op}
+use Rattle.std.specs.Prelude.{◌≡◌, ℕ, ◌≤◌, ◌<◌, IsTrue, ◌==◌, ◌&&◌, if◌then◌else◌, Bool, true, false, List, [], ◌∷◌, ◌⊎◌}
+use Rattle.rm_core.specs.Below.{Rid, MAX_SLOT, is_same_place, Op}
 use Rattle.rm_core.specs.State.{Stage, tries, fetches, sets, settles, prepares, compensates, Grant}
 use Rattle.rm_events.specs.declared.operations.Op.TheVariants as ops
 

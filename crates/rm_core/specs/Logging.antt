@@ -1,5 +1,6 @@
 -- A trace tells its log: each record but what a change leaves in its slot, which the reply tells, and a checkpoint's lists.
-use Rattle.rm_core.specs.Below.{◌≡◌, ℕ, List, [], ◌∷◌, Option, Some, None, ◌⊎◌, Format, Slot, Row, Act, Change, Listing, History, changes, undoes, enters}
+use Rattle.std.specs.Prelude.{◌≡◌, ℕ, List, [], ◌∷◌, Option, Some, None, ◌⊎◌}
+use Rattle.rm_core.specs.Below.{Format, Slot, Row, Act, Change, Listing, History, changes, undoes, enters}
 use Rattle.rm_core.specs.Below.{commits, ends, lists, marks, IsLast, entry_for, undo_for, Seen}
 use Rattle.rm_core.specs.Effects.{setting, entry_now}
 use Rattle.rm_core.specs.Events.{Event}

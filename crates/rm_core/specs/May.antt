@@ -1,5 +1,6 @@
 -- Which turns a session may make, and one step of the machine.
-use Rattle.rm_core.specs.Below.{◌≡◌, ℕ, ◌+◌, ◌-◌, ◌^◌, ◌<◌, ◌≤◌, Bool, List, [], ◌∷◌, length, Format, Rid, Slot, Vacant, Row, slot_at, category_of}
+use Rattle.std.specs.Prelude.{◌≡◌, ℕ, ◌+◌, ◌-◌, ◌^◌, ◌<◌, ◌≤◌, Bool, List, [], ◌∷◌, length}
+use Rattle.rm_core.specs.Below.{Format, Rid, Slot, Vacant, Row, slot_at, category_of}
 use Rattle.rm_core.specs.Below.{BATCH_HEADER, Change, History, page_of, entry_of, pending_of, unreserved, GrowthFits, category_after, Op}
 use Rattle.rm_core.specs.Effects.{after}
 use Rattle.rm_core.specs.Locks.{HasGrant, HoldsAlone, Blocks, IsInside, Asks, Latches, Looks}

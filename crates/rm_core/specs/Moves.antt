@@ -1,5 +1,6 @@
 -- The moves of the machine: turns of sessions, turns of the background, and turns that are answered without being made.
-use Rattle.rm_core.specs.Below.{◌≡◌, ℕ, ◌+◌, ◌^◌, ◌<◌, ◌≤◌, ◌∷◌, length, ◌⊎◌, Format, BATCH_HEADER, Listing, lists, marks, MayList, Actor, Flush, Clean}
+use Rattle.std.specs.Prelude.{◌≡◌, ℕ, ◌+◌, ◌^◌, ◌<◌, ◌≤◌, ◌∷◌, length, ◌⊎◌}
+use Rattle.rm_core.specs.Below.{Format, BATCH_HEADER, Listing, lists, marks, MayList, Actor, Flush, Clean}
 use Rattle.rm_core.specs.Below.{Checkpoint, Copy, Seen}
 use Rattle.rm_core.specs.Effects.{after, goes_to, staged, with_effect}
 use Rattle.rm_core.specs.Locks.{Latches, Looks}

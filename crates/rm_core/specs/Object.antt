@@ -1,5 +1,6 @@
 -- The one-thread object: what one user alone of a file may be told, and what the rows and savepoints are then.
-use Rattle.rm_core.specs.Below.{◌≡◌, ℕ, Bool, List, [], ◌∷◌, None, Rid, Row, row_of, Rows, with_slot}
+use Rattle.std.specs.Prelude.{◌≡◌, ℕ, Bool, List, [], ◌∷◌, None}
+use Rattle.rm_core.specs.Below.{Rid, Row, row_of, Rows, with_slot}
 use Rattle.rm_core.specs.Locks.{Asks, IsInside}
 use Rattle.rm_core.specs.Outcomes.{Outcome, began, inserted, no_space, saw, altered, missed, full, saved, no_save, back_to, committed, aborted, died, skipped}
 use Rattle.rm_core.specs.Outcomes.{refused, unbound}

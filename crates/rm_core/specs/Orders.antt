@@ -1,5 +1,6 @@
 -- The operations of each transaction, and the transactions in the order of their commits, as a trace tells them.
-use Rattle.rm_core.specs.Below.{◌≡◌, ℕ, ◌-◌, ◌+◌, ◌==◌, if◌then◌else◌, List, [], ◌∷◌, length, drop, map, Option, Some, None, ◌⊎◌, Rows, History, changes}
+use Rattle.std.specs.Prelude.{◌≡◌, ℕ, ◌-◌, ◌+◌, ◌==◌, if◌then◌else◌, List, [], ◌∷◌, length, drop, map, Option, Some, None, ◌⊎◌}
+use Rattle.rm_core.specs.Below.{Rows, History, changes}
 use Rattle.rm_core.specs.Below.{undoes, enters, commits, ends, marks, Seen}
 use Rattle.rm_core.specs.Events.{Event}
 use Rattle.rm_core.specs.Object.{rows_through, AllAllowed}

@@ -1,5 +1,6 @@
 -- A finished operation and its reply as one value, so that there is none but the pairs that come.
-use Rattle.rm_core.specs.Below.{ℕ, List, Rid, Slot, Op, Reply}
+use Rattle.std.specs.Prelude.{ℕ, List}
+use Rattle.rm_core.specs.Below.{Rid, Slot, Op, Reply}
 use Rattle.rm_events.specs.declared.operations.Finished.{Finished}
 use Rattle.rm_types.specs.declared.slots.Slot.TheVariants as slot
 use Rattle.rm_events.specs.declared.operations.Op.TheVariants as ops

@@ -1,5 +1,6 @@
 -- Room in the log: what is kept for settling, undo and ends.
-use Rattle.rm_core.specs.Below.{ℕ, ◌+◌, ◌≤◌, ◌==◌, if◌then◌else◌, List, [], ◌∷◌, length, row_length, sum_below, Change, History, pending_of}
+use Rattle.std.specs.Prelude.{ℕ, ◌+◌, ◌≤◌, ◌==◌, if◌then◌else◌, List, [], ◌∷◌, length}
+use Rattle.rm_core.specs.Below.{row_length, sum_below, Change, History, pending_of}
 use Rattle.rm_core.specs.Sizes.{end_of, IsNext}
 use Rattle.rm_core.specs.State.{Stage, settles, forces, finishes, compensates, Seat, State, seat_at}
 use Rattle.rm_core.specs.Turns.{Turn, begin, insert, alter}

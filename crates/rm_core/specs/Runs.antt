@@ -1,5 +1,6 @@
 -- Runs of the machine from an opening, and the events that they leave.
-use Rattle.rm_core.specs.Below.{◌≡◌, ℕ, ◌^◌, ◌<◌, ◌≤◌, List, [], ◌∷◌, None, replicate, History, IsLegal, IsFinished, HasRecord, Checkpoint}
+use Rattle.std.specs.Prelude.{◌≡◌, ℕ, ◌^◌, ◌<◌, ◌≤◌, List, [], ◌∷◌, None, replicate}
+use Rattle.rm_core.specs.Below.{History, IsLegal, IsFinished, HasRecord, Checkpoint}
 use Rattle.rm_core.specs.Events.{Event, event_of}
 use Rattle.rm_core.specs.Kept.{IsRight}
 use Rattle.rm_core.specs.Moves.{Setting, Move, turns, answered, appends, append_refused, rests, Moves}

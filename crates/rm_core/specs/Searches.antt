@@ -1,5 +1,6 @@
 -- Which pages an insert has handled before it is told that there is no space.
-use Rattle.rm_core.specs.Below.{◌≡◌, ℕ, suc, ◌+◌, ◌≤◌, ◌<◌, ◌==◌, if◌then◌else◌, Bool, false, List, [], ◌∷◌, length, Some, ◌⊎◌, Rid, Slot, slot_at, page_of}
+use Rattle.std.specs.Prelude.{◌≡◌, ℕ, suc, ◌+◌, ◌≤◌, ◌<◌, ◌==◌, if◌then◌else◌, Bool, false, List, [], ◌∷◌, length, Some, ◌⊎◌}
+use Rattle.rm_core.specs.Below.{Rid, Slot, slot_at, page_of}
 use Rattle.rm_core.specs.Below.{RowFits, Actor, Session, Seen}
 use Rattle.rm_core.specs.Events.{Event}
 use Rattle.rm_core.specs.Moves.{turns, Moves}

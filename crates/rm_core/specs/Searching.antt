@@ -1,5 +1,6 @@
 -- When an insert may search, and when it finds its place.
-use Rattle.rm_core.specs.Below.{◌≡◌, ℕ, ◌+◌, ◌*◌, ◌/◌, ◌<◌, ◌≤◌, min, Bool, true, false, List, length, Format, Rid, BLOCK_PAGES, IsExcluded, History, page_of}
+use Rattle.std.specs.Prelude.{◌≡◌, ℕ, ◌+◌, ◌*◌, ◌/◌, ◌<◌, ◌≤◌, min, Bool, true, false, List, length}
+use Rattle.rm_core.specs.Below.{Format, Rid, BLOCK_PAGES, IsExcluded, History, page_of}
 use Rattle.rm_core.specs.Below.{entry_of, IsSlotForRow, RowFits}
 use Rattle.rm_core.specs.Locks.{HasGrant}
 use Rattle.rm_core.specs.Sizes.{IsNext}

@@ -1,5 +1,6 @@
 -- The state of the machine: the history, the row locks, and for each session its transaction and its stage.
-use Rattle.rm_core.specs.Below.{◌≡◌, ℕ, ◌==◌, if◌then◌else◌, Bool, List, [], ◌∷◌, slice_index_or, ◌⊎◌, Rid, Slot, History}
+use Rattle.std.specs.Prelude.{◌≡◌, ℕ, ◌==◌, if◌then◌else◌, Bool, List, [], ◌∷◌, slice_index_or, ◌⊎◌}
+use Rattle.rm_core.specs.Below.{Rid, Slot, History}
 use Rattle.rm_core.specs.Outcomes.{Outcome}
 
 -- a savepoint: its number, and what it stands for

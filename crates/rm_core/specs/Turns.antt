@@ -1,5 +1,6 @@
 -- The turns of a session, each with all that is free in it.
-use Rattle.rm_core.specs.Below.{ℕ, Bool, List, Rid, Slot, Change, Op}
+use Rattle.std.specs.Prelude.{ℕ, Bool, List}
+use Rattle.rm_core.specs.Below.{Rid, Slot, Change, Op}
 use Rattle.rm_core.specs.Outcomes.{Outcome}
 use Rattle.rm_core.specs.State.{Aim}
 

@@ -1,5 +1,5 @@
 -- The chosen move is the session's for the operation, and a move of the machine.
-use Rattle.rm_core.specs.Below.{◌≡◌, ℕ, zero, suc, option_map, Option, Some, None, ◌+◌, ◌-◌, ◌*◌, ◌^◌, ◌<◌, ◌≤◌, Bool, true, false, List, [], ◌∷◌, length}
+use Rattle.std.specs.Prelude.{◌≡◌, ℕ, zero, suc, option_map, Option, Some, None, ◌+◌, ◌-◌, ◌*◌, ◌^◌, ◌<◌, ◌≤◌, Bool, true, false, List, [], ◌∷◌, length}
 use Rattle.rm_core.specs.Below.{category_bytes, Rid, MAX_SLOT, Slot, Vacant, Row, CAPACITY, slot_at, category_of, Change, History, page_of, entry_of}
 use Rattle.rm_core.specs.Below.{pending_of, last_of, AreFalling, category_after, Op, Actor, Session, Flush}
 use Rattle.rm_core.specs.Names.{after, Kept, Blocks, IsInside, Asks, Wants, IsBlockedBy, SlotFits, IsSeated, May, Setting, log_full, Bars, IsBarredBy, Lacks}

@@ -1,5 +1,6 @@
 -- The operation that a session is at, and that each of its turns goes on with it or finishes it.
-use Rattle.rm_core.specs.Below.{◌≡◌, ℕ, Bool, true, false, List, Option, Some, None, Format, Rid, Slot, Op}
+use Rattle.std.specs.Prelude.{◌≡◌, ℕ, Bool, true, false, List, Option, Some, None}
+use Rattle.rm_core.specs.Below.{Format, Rid, Slot, Op}
 use Rattle.rm_core.specs.Names.{effect, latched, scanned, outcome_of, Asks, May, IsSkipped, Wants, Outcome, altering, asked, Scans, Aim, undoes_all, returns}
 use Rattle.rm_core.specs.Names.{Stage, idle, seeks, wants, tries, reads, fetches, alters, sets, settles, forces, finishes, rolls, prepares, compensates, Seat}
 use Rattle.rm_core.specs.Names.{State, Turn, skip, unname, refuse, begin, scan, scan_last, latch, try, try_last, insert, lock, lock_alone, wait, die, fetch}

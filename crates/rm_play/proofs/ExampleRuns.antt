@@ -1,5 +1,6 @@
 -- Runs of the machine by the words of scripts, evaluated.
-use Rattle.rm_core.specs.Below.{◌≡◌, ℕ, suc, ◌^◌, false, List, [], ◌∷◌, length, map, replicate, Option, Some, None, Rid, used, History, enters, page_of}
+use Rattle.std.specs.Prelude.{◌≡◌, ℕ, suc, ◌^◌, false, List, [], ◌∷◌, length, map, replicate, Option, Some, None}
+use Rattle.rm_core.specs.Below.{Rid, used, History, enters, page_of}
 use Rattle.rm_core.specs.Below.{entry_of, need_of, rows_of_log, Actor, Session, Flush, Seen, Line, Word, Reply}
 use Rattle.std.specs.List.{range_with_len}
 use Rattle.rm_types.specs.declared.formats.Format.TheVariants.{One}

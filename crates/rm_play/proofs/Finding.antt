@@ -1,6 +1,8 @@
 -- What the searches of a session's move find.
-use Rattle.rm_core.specs.Below.{◌≡◌, ◌⊎◌, ℕ, zero, suc, ◌+◌, ◌<◌, ◌≤◌, max, Bool, true, false, IsTrue, Option, Some, None, is_some, List, [], ◌∷◌, length}
-use Rattle.rm_core.specs.Below.{Decides, unwrap_or, Rid, Slot, Vacant, Row, is_same_place, slot_at, page_of, IsSlotForRow}
+use Rattle.std.specs.Bool.{Decides}
+use Rattle.std.specs.Option.{unwrap_or}
+use Rattle.std.specs.Prelude.{◌≡◌, ◌⊎◌, ℕ, zero, suc, ◌+◌, ◌<◌, ◌≤◌, max, Bool, true, false, IsTrue, Option, Some, None, is_some, List, [], ◌∷◌, length}
+use Rattle.rm_core.specs.Below.{Rid, Slot, Vacant, Row, is_same_place, slot_at, page_of, IsSlotForRow}
 use Rattle.rm_core.specs.Names.{HasGrant, Blocks, Latches, Looks, IsReading, Bars, IsHeld, Savepoint, HasNumber, Stage, tries, fetches, sets, settles, prepares}
 use Rattle.rm_core.specs.Names.{compensates, reads, Seat, Grant, State, seat_at, empty_seat}
 use Rattle.rm_play.specs.{first_from, blocks_it, blocker, is_vacant, is_free, past_locks, slot_for, latches_it, looks_at, is_reading, bars_it, first_barring}

@@ -1,5 +1,6 @@
 -- The run of a script is a run of the machine, and its trace follows the lines.
-use Rattle.rm_core.specs.Below.{◌≡◌, ◌⊎◌, ℕ, zero, suc, ◌<◌, Bool, true, false, List, [], ◌∷◌, length, replicate, slice_index_or, Option, Some, None, Rid}
+use Rattle.std.specs.Prelude.{◌≡◌, ◌⊎◌, ℕ, zero, suc, ◌<◌, Bool, true, false, List, [], ◌∷◌, length, replicate, slice_index_or, Option, Some, None}
+use Rattle.rm_core.specs.Below.{Rid}
 use Rattle.rm_core.specs.Below.{Actor, Session, Flush, Line, Op, op_of, names_after}
 use Rattle.rm_core.specs.Names.{effect, after, staged, outcome_of, Kept, Answer, again, log_full, spent, closed, Move, turns, answered, rests, Moves}
 use Rattle.rm_core.specs.Names.{onto, Outcome, reply_of, Opening, IsOpening, IsRun, Stage, idle, Seat, State, seat_at}

@@ -1,5 +1,6 @@
 -- What holds of each run beside what is kept: an insert's page is one of the file, and the next id is at most 2 ^ 32.
-use Rattle.rm_core.specs.Below.{ℕ, zero, suc, List, [], ◌∷◌, ◌^◌, ◌<◌, ◌≤◌, true, false, Format}
+use Rattle.std.specs.Prelude.{ℕ, zero, suc, List, [], ◌∷◌, ◌^◌, ◌<◌, ◌≤◌, true, false}
+use Rattle.rm_core.specs.Below.{Format}
 use Rattle.rm_core.specs.Names.{Effect, effect, goes_to, latched, staged, with_effect, May, Wants, Setting, again, log_full, spent, Move, turns, answered}
 use Rattle.rm_core.specs.Names.{appends, append_refused, rests, Moves, Machine, IsRun, Stage, idle, wants, tries, Seat, State, seat_at, Turn, skip, unname}
 use Rattle.rm_core.specs.Names.{refuse, begin, scan, latch, wait}

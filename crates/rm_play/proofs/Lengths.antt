@@ -1,5 +1,6 @@
 -- Each turn brings its operation nearer to its end.
-use Rattle.rm_core.specs.Below.{◌≡◌, ℕ, ◌+◌, ◌*◌, ◌<◌, ◌≤◌, Bool, true, false, List, [], ◌∷◌, length, Format, Rid, Vacant, Row, Change, undoes, pending_of}
+use Rattle.std.specs.Prelude.{◌≡◌, ℕ, ◌+◌, ◌*◌, ◌<◌, ◌≤◌, Bool, true, false, List, [], ◌∷◌, length}
+use Rattle.rm_core.specs.Below.{Format, Rid, Vacant, Row, Change, undoes, pending_of}
 use Rattle.rm_core.specs.Below.{undo_for, Op}
 use Rattle.rm_core.specs.Names.{effect, logging, latched, staged, Kept, Asks, Wants, IsSeated, May, Step, again, log_full, spent, Setting, closed}
 use Rattle.rm_core.specs.Names.{Move, turns, answered, appends, append_refused, rests, Moves, Opening, Machine, IsRun, moved, Scans, undoes_all, returns}
@@ -151,15 +152,15 @@ turns_come_nearer m k op turn new run step takes =
 -- ---- over many moves
 
 -- a turn leaves another transaction's changes pending
-pending_still : (format : Format) (pages : ℕ) (s : State) (j : ℕ) (seat : Seat) (turn : Turn) (txn : ℕ) → IsSeated seat turn → May format pages s j seat turn → ((seat.txn ≡ 0 → ⊥) → seat.txn ≡ txn → ⊥)
-    → pending_of (logging (effect format s seat turn).logged s.history) txn ≡ pending_of s.history txn
-pending_still format pages s j seat (insert row rid lsn) txn seated may differs = pending-change_other _ s.history txn (differs seated)
-pending_still format pages s j seat (alter rid slot lsn) txn seated may differs = pending-change_other _ s.history txn (differs seated)
-pending_still format pages s j seat (commit lsn) txn seated may differs = pending-commit_other (record { lsn = lsn; txn = seat.txn }) s.history txn (differs seated)
-pending_still format pages s j seat (end outcome lsn) txn seated may differs = pending-end_other (record { lsn = lsn; txn = seat.txn }) s.history txn (differs seated)
-pending_still format pages s j seat (compensate aim last lsn) txn seated may differs =
-    pending-undo_other (undo_for lsn last) s.history txn (λ same. differs seated (sym (last_is_of s.history seat.txn last may.1.0 may.1.1) ∙ same))
-pending_still format pages s j seat other txn seated may differs = refl
+pending_still : (format : Format) (pages : ℕ) (s : State) (j : ℕ) (here : Seat) (turn : Turn) (txn : ℕ) → IsSeated here turn → May format pages s j here turn → ((here.txn ≡ 0 → ⊥) → here.txn ≡ txn → ⊥)
+    → pending_of (logging (effect format s here turn).logged s.history) txn ≡ pending_of s.history txn
+pending_still format pages s j here (insert row rid lsn) txn seated may differs = pending-change_other _ s.history txn (differs seated)
+pending_still format pages s j here (alter rid slot lsn) txn seated may differs = pending-change_other _ s.history txn (differs seated)
+pending_still format pages s j here (commit lsn) txn seated may differs = pending-commit_other (record { lsn = lsn; txn = here.txn }) s.history txn (differs seated)
+pending_still format pages s j here (end outcome lsn) txn seated may differs = pending-end_other (record { lsn = lsn; txn = here.txn }) s.history txn (differs seated)
+pending_still format pages s j here (compensate aim last lsn) txn seated may differs =
+    pending-undo_other (undo_for lsn last) s.history txn (λ same. differs seated (sym (last_is_of s.history here.txn last may.1.0 may.1.1) ∙ same))
+pending_still format pages s j here other txn seated may differs = refl
 
 -- another session's turn leaves the session's turns
 step_leaves : (format : Format) (pages : ℕ) (old new : State) (j k : ℕ) (turn : Turn) → Kept format old → Step format pages old j turn new → (j ≡ k → ⊥)

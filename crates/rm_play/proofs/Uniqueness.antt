@@ -1,6 +1,8 @@
 -- A session's move for an operation is one but for its free choices: it is the chosen one, but for the log's room.
-use Rattle.rm_core.specs.Below.{◌≡◌, ℕ, ◌+◌, ◌-◌, ◌*◌, ◌^◌, ◌==◌, ◌<◌, ◌≤◌, max, Bool, true, false, Option, Some, None, List, [], ◌∷◌, length, Decides, nat_lt}
-use Rattle.rm_core.specs.Below.{nat_le, ◌&&◌, if◌then◌else◌, category_bytes, Rid, MAX_SLOT, Slot, Vacant, Row, CAPACITY, slot_at, Change, page_of, entry_of}
+use Rattle.std.specs.Bool.{Decides}
+use Rattle.std.specs.Prelude.{◌≡◌, ℕ, ◌+◌, ◌-◌, ◌*◌, ◌^◌, ◌==◌, ◌<◌, ◌≤◌, max, Bool, true, false, Option, Some, None, List, [], ◌∷◌, length, nat_lt, nat_le}
+use Rattle.std.specs.Prelude.{◌&&◌, if◌then◌else◌}
+use Rattle.rm_core.specs.Below.{category_bytes, Rid, MAX_SLOT, Slot, Vacant, Row, CAPACITY, slot_at, Change, page_of, entry_of}
 use Rattle.rm_core.specs.Below.{pending_of, IsSlotForRow, RowFits, unreserved, Op}
 use Rattle.rm_core.specs.Names.{after, Kept, Asks, IsInside, Wants, IsBlockedBy, IsSkipped, IsSeated, May, SlotFits, Setting, again, log_full, spent, Bars}
 use Rattle.rm_core.specs.Names.{IsSpent, Lacks, Move, turns, answered, CHANGE_COST, owed, Scans, IsHeld, MayTry, part_end, end_of, undoes_all, returns}

@@ -1,5 +1,6 @@
 -- Which moves a session may make for an operation: there is one in every state, and it is one but for its free choices.
-use Rattle.rm_core.specs.Below.{◌≡◌, ℕ, ◌+◌, Op}
+use Rattle.std.specs.Prelude.{◌≡◌, ℕ, ◌+◌}
+use Rattle.rm_core.specs.Below.{Op}
 use Rattle.rm_core.specs.Names.{after, May, IsSeated, Setting, again, log_full, spent, IsBarredBy, IsSpent, Lacks, Move, turns, answered, altering}
 use Rattle.rm_core.specs.Names.{HasRoomFor, Machine, IsRun, IsNext, Stage, idle, State, seat_at, Turn, skip, unname, refuse, begin, scan, scan_last, insert}
 use Rattle.rm_core.specs.Names.{lock, lock_alone, wait, die, alter, settle, commit, force, abort, prepare, compensate, end, save, no_target, target}

@@ -1,7 +1,9 @@
 -- The move that a session makes for an operation, as a function of its one free choice: the offset at which the next record may stand, which
 -- is the LSN of its record, or how far the log is durable.
-use Rattle.rm_core.specs.Below.{◌<◌, ℕ, zero, suc, ◌+◌, ◌-◌, ◌*◌, ◌^◌, ◌==◌, ◌&&◌, ◌||◌, not, nat_lt, nat_le, if◌then◌else◌, Bool, true, false, List, [], ◌∷◌}
-use Rattle.rm_core.specs.Below.{length, max, Option, Some, None, is_some, unwrap_or, Format, Rid, MAX_SLOT, Slot, CAPACITY, category_bytes, used, slot_at}
+use Rattle.std.specs.Option.{unwrap_or}
+use Rattle.std.specs.Prelude.{◌<◌, ℕ, zero, suc, ◌+◌, ◌-◌, ◌*◌, ◌^◌, ◌==◌, ◌&&◌, ◌||◌, not, nat_lt, nat_le, if◌then◌else◌, Bool, true, false, List, [], ◌∷◌}
+use Rattle.std.specs.Prelude.{length, max, Option, Some, None, is_some}
+use Rattle.rm_core.specs.Below.{Format, Rid, MAX_SLOT, Slot, CAPACITY, category_bytes, used, slot_at}
 use Rattle.rm_core.specs.Below.{category_of, is_same_place, Change, History, page_of, entry_of, need_of, pending_of, others_need, unreserved, growth_for}
 use Rattle.rm_core.specs.Below.{category_after, Op}
 use Rattle.rm_core.specs.Names.{after, Setting, again, log_full, spent, closed, Move, turns, answered, Moves, CHANGE_COST, owed, part_end, Machine, IsRun}

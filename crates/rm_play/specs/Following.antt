@@ -1,5 +1,6 @@
 -- A trace follows the lines of a script.
-use Rattle.rm_core.specs.Below.{◌≡◌, ℕ, Bool, true, false, List, [], ◌∷◌, Option, slice_index_or, ◌⊎◌, Rid, Actor, Line, op_of, names_after}
+use Rattle.std.specs.Prelude.{◌≡◌, ℕ, Bool, true, false, List, [], ◌∷◌, Option, slice_index_or, ◌⊎◌}
+use Rattle.rm_core.specs.Below.{Rid, Actor, Line, op_of, names_after}
 use Rattle.rm_core.specs.Names.{Event, Move, onto, Outcome, asked, reply_of, Opening, IsOpening, IsRun, of_session}
 use Rattle.rm_play.specs.Words.{Progress, no_names, begun, ByActors, StopsBy}
 use Rattle.rm_events.specs.declared.operations.Op.TheVariants as ops

@@ -1,5 +1,6 @@
 -- How many turns an operation takes at the most.
-use Rattle.rm_core.specs.Below.{◌≡◌, ℕ, ◌+◌, ◌-◌, ◌*◌, ◌/◌, ◌≤◌, ◌<◌, nat_lt, if◌then◌else◌, max, List, [], ◌∷◌, length, ◌⊎◌, BLOCK_PAGES, blocks_of, Change}
+use Rattle.std.specs.Prelude.{◌≡◌, ℕ, ◌+◌, ◌-◌, ◌*◌, ◌/◌, ◌≤◌, ◌<◌, nat_lt, if◌then◌else◌, max, List, [], ◌∷◌, length, ◌⊎◌}
+use Rattle.rm_core.specs.Below.{BLOCK_PAGES, blocks_of, Change}
 use Rattle.rm_core.specs.Below.{History, pending_of, Op}
 use Rattle.rm_core.specs.Names.{Step, Move, turns, Moves, Machine, IsRun, moved, target_of, Stage, idle, seeks, wants, tries, reads, fetches, alters, sets}
 use Rattle.rm_core.specs.Names.{settles, forces, finishes, rolls, prepares, compensates, Seat, State, seat_at, Turn}

@@ -1,5 +1,6 @@
 -- The run of a script as a function of its free choices.
-use Rattle.rm_core.specs.Below.{ℕ, suc, ◌+◌, ◌<◌, Bool, true, false, List, [], ◌∷◌, length, option_map, Option, Some, None, History, BATCH_HEADER, Actor}
+use Rattle.std.specs.Prelude.{ℕ, suc, ◌+◌, ◌<◌, Bool, true, false, List, [], ◌∷◌, length, option_map, Option, Some, None}
+use Rattle.rm_core.specs.Below.{History, BATCH_HEADER, Actor}
 use Rattle.rm_core.specs.Below.{Session, Flush}
 use Rattle.rm_core.specs.Names.{Move, rests, IsRun, end_of}
 use Rattle.rm_play.specs.Choosing.{chosen, state_after}

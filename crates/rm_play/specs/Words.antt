@@ -1,6 +1,7 @@
 -- The run of a script: each actor of a list makes one turn, a session for its next line.
-use Rattle.rm_core.specs.Below.{◌≡◌, ℕ, zero, suc, ◌+◌, Bool, true, false, List, [], ◌∷◌, ◌++◌, length, replicate, slice_index_or, slice_set, Option, Some}
-use Rattle.rm_core.specs.Below.{None, Rid, Actor, Session, Flush, Line, Word, Op, op_of, names_after}
+use Rattle.std.specs.Prelude.{◌≡◌, ℕ, zero, suc, ◌+◌, Bool, true, false, List, [], ◌∷◌, ◌++◌, length, replicate, slice_index_or, slice_set, Option, Some}
+use Rattle.std.specs.Prelude.{None}
+use Rattle.rm_core.specs.Below.{Rid, Actor, Session, Flush, Line, Word, Op, op_of, names_after}
 use Rattle.rm_core.specs.Names.{outcome_of, log_full, spent, Move, turns, answered, rests, Moves, Outcome, reply_of, Opening, Machine, started, moved}
 use Rattle.rm_core.specs.Names.{State, seat_at}
 use Rattle.rm_play.specs.Choices.{IsMoveFor}

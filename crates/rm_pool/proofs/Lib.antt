@@ -1,3 +1,4 @@
 pub mod JournalSteps
+pub mod JournalEnds
 pub mod JournalLookups
 pub mod FrameLaws

@@ -73,13 +73,10 @@ HasMemory slots number Vacant spare = Unit {0}
 HasMemory slots number (Row row) None = ⊥
 HasMemory slots number (Row row) (Some spare) = IsReady slots number spare
 
--- so each page that is set has room and memory, and each entry that is entered is there
+-- the page of the slot that is set is there, can have the slot, and has the memory for it
 abbrev pub MaySet : List PageValue → Option ℕ → Rid × Slot → Type 0
 MaySet pages spare one = (one.0.page < length pages) × ((other : PageValue) → let slots = (slice_index_or pages one.0.page other).slots in
     (CannotHave slots one.0.slot one.1 → ⊥) × HasMemory slots one.0.slot one.1 spare)
-
-abbrev pub MayEnter : List InventoryValue → ℕ × ℕ → Type 0
-MayEnter blocks one = ((one.0 / BLOCK_PAGES) < length blocks) × (one.1 ≤ MAX_CATEGORY)
 
 -- The record may be put with this spare memory.
 pub record IsReadyFor (frames : FramesValue) (what : LogRecord) (spare : Option ℕ) : Type 0 where

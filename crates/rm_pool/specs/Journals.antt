@@ -10,8 +10,9 @@ use Rattle.rm_history.specs.declared.TheConstants.{BATCH_HEADER}
 use Rattle.rm_history.specs.Logs.{Batch, AreBatches, HasLog}
 use Rattle.rm_history.specs.Acts.{Act, History, act_at, lsn_of}
 use Rattle.rm_history.specs.Batched.{acts_after, acts_of_batches}
+use Rattle.rm_history.specs.Sizes.{IsNext}
 use Rattle.rm_wal.specs.Flushing.{Tails}
-use Rattle.rm_wal.specs.Tails.{LogValue}
+use Rattle.rm_wal.specs.Tails.{LogValue, end_of}
 
 -- The volume now and at the opening; the log in memory; what the records of the log do, those of its tail among them, and
 -- how much of that is durable. No flush has failed while that is known.
@@ -87,6 +88,10 @@ gate_after gate (byte ∷ rest) = gate + (BATCH_HEADER + length (byte ∷ rest))
 -- the log once its tail is durable
 abbrev pub flushed : LogValue → LogValue
 flushed log = record { batch = gate_after log.batch log.tail; tail = []; limit = log.limit }
+
+-- the log ends where the next record of its history may stand
+abbrev pub EndsNext : {V : Type 0} → JournalValue V → Type 0
+EndsNext it = IsTrue it.is_known → IsNext it.history (end_of it.log)
 
 -- ---- looking a record up
 

@@ -1,6 +1,7 @@
 //! The pages and the inventory of a file in memory.
 
-ghost use Rattle.std.specs.Prelude.{◌≡◌, ℕ, ◌+◌, ◌*◌, ◌/◌, ◌<◌, ◌≤◌, ◌⊎◌, [], ◌∷◌, length, replicate, option_copied, Some, None, IsSome, IfOk, IfErr, IfSome, OnOk, OnErr};
+ghost use Rattle.std.specs.Prelude.{◌≡◌, ℕ, ◌+◌, ◌*◌, ◌/◌, ◌<◌, ◌≤◌, ◌⊎◌, [], ◌∷◌, length, option_copied, Some, None, IsSome, IfOk, IfErr, IfSome, OnOk, OnErr};
+ghost use Rattle.rm_types.specs.declared.formats.TheConstants.{MAX_CATEGORY};
 ghost use Rattle.rm_types.specs.declared.numbers.TheConstants.{BLOCK_PAGES, MAX_PAGES};
 ghost use Rattle.rm_model.specs.Pages.{set_slot};
 ghost use Rattle.rm_record.specs.declared.records.LogRecord.{LogRecord as AnyRecord};
@@ -9,7 +10,7 @@ ghost use Rattle.rm_history.specs.Contents.{slot_of};
 ghost use Rattle.rm_apply.specs.declared.answers.ApplyRefused.TheVariants as refused;
 ghost use Rattle.rm_apply.specs.Entries.{entered_by};
 ghost use Rattle.rm_apply.specs.Redo.{set_by, CannotHave};
-ghost use Rattle.rm_pool.specs.Frames.{AreFrames, IsPageOf, IsBlockOf, EachIs, blocks_for, IsForFixed, CannotTake, HasMemory, MaySet, MayEnter, IsReadyFor, IsAfter, repeated};
+ghost use Rattle.rm_pool.specs.Frames.{AreFrames, IsPageOf, IsBlockOf, EachIs, blocks_for, IsForFixed, CannotTake, HasMemory, MaySet, IsReadyFor, IsAfter, repeated};
 
 use rm_apply::{ApplyRefused, category_entered_by, redo, redo_inventory, row_set_by, slot_set_by};
 use rm_inventory::Inventory;
@@ -86,7 +87,10 @@ fn set_of(what: LogRecord) -> Option<(Rid, Slot)>
         LogRecord::Insert { rid, row, .. } => Some((rid, Slot::Row(row))),
         LogRecord::Delete { rid, old: _old, .. } => Some((rid, Slot::Vacant)),
         LogRecord::Update {
-            rid, old: _old, new, ..
+            rid,
+            old: _old,
+            new,
+            ..
         } => Some((rid, Slot::Row(new))),
         LogRecord::Compensate { rid, back, .. } => Some((rid, back)),
         LogRecord::Inventory { .. } | LogRecord::Commit { .. } | LogRecord::End { .. } => None,
@@ -107,7 +111,11 @@ fn ready(page: &Page, number: u16, row: Option<&Row>) -> Result<Option<Spare>, A
     ensures no_memory { IfErr result (λ e. e ≡ refused.NoMemory → CannotHave page.now.slots number (slot_of (option_copied row.entry)) → ⊥) }
 {
     let Some(row) = row else {
-        return if number < page.slots() { Ok(None) } else { Err(ApplyRefused::Unfit) };
+        return if number < page.slots() {
+            Ok(None)
+        } else {
+            Err(ApplyRefused::Unfit)
+        };
     };
     if page.used_with(number, row.as_slice()) > CAPACITY as usize {
         return Err(ApplyRefused::Unfit);
@@ -146,7 +154,8 @@ fn set_in(pages: &mut Vec<Page>, one: Option<(Rid, Slot)>, spare: Option<Spare>,
 
 // Enters what a record enters, if it enters a category, in the block that describes its page.
 fn enter(blocks: &mut Vec<Inventory>, one: Option<(u32, u8)>, lsn: Lsn)
-    requires { IfSome one (MayEnter blocks.old.items) }
+    requires inside { IfSome one (λ one. (one.0 / BLOCK_PAGES) < length blocks.old.items) }
+    requires category { IfSome one (λ one. one.1 ≤ MAX_CATEGORY) }
     ensures count { length blocks.new.items ≡ length blocks.old.items }
     ensures entered { (history : History) (what : AnyRecord) → entered_by what ≡ one → EachIs (IsBlockOf history) blocks.old.items
         → EachIs (IsBlockOf (act_at lsn.0 what ∷ history)) blocks.new.items }

@@ -1,6 +1,6 @@
 //! A volume and the log on it, owned together.
 
-ghost use Rattle.std.specs.Prelude.{◌≡◌, ℕ, ◌+◌, ◌<◌, ◌≤◌, true, false, [], ◌∷◌, ◌++◌, length, IsTrue, IfOk, OnOk, OnErr, MatchResult, Err};
+ghost use Rattle.std.specs.Prelude.{◌≡◌, ℕ, ◌+◌, ◌<◌, ◌≤◌, true, false, [], ◌∷◌, ◌++◌, length, IsTrue, IfOk, IsOk, OnOk, OnErr, MatchResult, Err};
 ghost use Rattle.rm_types.specs.declared.areas.Area.{Area as Areas};
 ghost use Rattle.rm_types.specs.declared.numbers.TheConstants.{MAX_LOG};
 ghost use Rattle.rm_outside.specs.Calls.{AtEachMoment, FailsIn, IsSynced, OnlyReads, StoreFailsIn};
@@ -9,7 +9,7 @@ ghost use Rattle.rm_history.specs.declared.TheConstants.{BATCH_HEADER, MAX_BATCH
 ghost use Rattle.rm_history.specs.Acts.{act_at, acts_of};
 ghost use Rattle.rm_wal.specs.Attaching.{Attaches};
 ghost use Rattle.rm_wal.specs.Tails.{end_of};
-ghost use Rattle.rm_pool.specs.Journals.{HasNoRecordAt, IsBetween, IsRecordAt, Stands, flushed};
+ghost use Rattle.rm_pool.specs.Journals.{EndsNext, HasNoRecordAt, IsBetween, IsRecordAt, Stands, flushed};
 
 use rm_noted::Noted;
 use rm_outside::Volume;
@@ -101,6 +101,7 @@ impl<V: Volume> Journal<V> {
     pub fn end(&self) -> u64
         ensures value { result ≡ end_of self.now.log }
         ensures bound { end_of self.now.log ≤ MAX_LOG + BATCH_HEADER }
+        ensures next { EndsNext self.now }
     {
         self.log.end()
     }
@@ -127,7 +128,8 @@ impl<V: Volume> Journal<V> {
     ///
     /// [`LogFull`] exactly where the end, `cost` and `owed` are together over the limit.
     pub fn room(&self, cost: u64, owed: u64) -> Result<(), LogFull>
-        ensures { MatchResult result (λ _. end_of self.now.log + cost + owed ≤ self.now.log.limit)
+        ensures next { EndsNext self.now }
+        ensures fits { MatchResult result (λ _. end_of self.now.log + cost + owed ≤ self.now.log.limit)
             (λ full. (full.end ≡ end_of self.now.log) × (self.now.log.limit < end_of self.now.log + cost + owed)) }
     {
         self.log.room(cost, owed)
@@ -142,6 +144,7 @@ impl<V: Volume> Journal<V> {
         requires is_record { IsRecord next.now }
         requires in_log { end_of self.old.log + length (spelling next.now) ≤ MAX_LOG }
         requires short { length self.old.log.tail + length (spelling next.now) ≤ MAX_BATCH }
+        ensures next { EndsNext self.old }
         ensures lsn { IfOk result (λ lsn. lsn.0 ≡ end_of self.old.log) }
         ensures ok { IfOk result (λ lsn. self.new ≡ record self.old { log = record self.old.log { tail = self.old.log.tail ++ spelling next.now }; history = act_at lsn.0 next.now ∷ self.old.history }) }
         ensures err { OnErr result (self.new ≡ self.old) }
@@ -159,8 +162,8 @@ impl<V: Volume> Journal<V> {
     pub fn flush(&mut self) -> Result<(), Fault>
         requires { IsTrue self.old.is_known }
         ensures ok { OnOk result (self.new ≡ record self.old { volume = self.new.volume; log = flushed self.old.log; durable = self.old.history }) }
-        ensures empty { self.old.log.tail ≡ [] → self.new ≡ self.old }
-        ensures err { OnErr result ((self.new.opened ≡ self.old.opened) × (self.new.history ≡ self.old.history) × (self.new.durable ≡ self.old.durable) × (self.new.is_known ≡ false)) }
+        ensures empty { self.old.log.tail ≡ [] → IsOk result × (self.new ≡ self.old) }
+        ensures err { OnErr result (self.new ≡ record self.old { volume = self.new.volume; log = self.new.log; is_known = false }) }
         ensures images { AtEachMoment V.Volume self.old.volume self.new.volume (IsBetween self.old.durable self.old.history) }
         ensures cause { FailsIn V.Volume Area.Log self.old.opened self.new.volume result }
     {
@@ -190,6 +193,7 @@ impl<V: Volume> Journal<V> {
         ensures images { AtEachMoment V.Volume self.old.volume self.new.volume (IsBetween self.old.durable self.old.history) }
         ensures cause { StoreFailsIn V.Volume Area.Log self.old.opened self.new.volume result }
         ensures reads { OnlyReads V.Volume Area.Log self.old.volume self.new.volume }
+        ensures unread { self.old.log.batch ≤ lsn.0 → self.new ≡ self.old }
         ensures same { self.new ≡ record self.old { volume = self.new.volume } }
     {
         if lsn.0 >= self.log.end() {

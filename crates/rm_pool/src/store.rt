@@ -8,7 +8,7 @@ ghost use Rattle.rm_record.specs.Records.{IsRecord};
 ghost use Rattle.rm_history.specs.declared.TheConstants.{BATCH_HEADER};
 ghost use Rattle.rm_apply.specs.declared.answers.ApplyRefused.TheVariants as refused;
 ghost use Rattle.rm_pool.specs.Frames.{IsBlockOf, IsPageOf};
-ghost use Rattle.rm_pool.specs.Journals.{HasNoRecordAt, IsRecordAt, Stands};
+ghost use Rattle.rm_pool.specs.Journals.{EndsNext, HasNoRecordAt, IsRecordAt, Stands};
 ghost use Rattle.rm_pool.specs.Stores.{CannotWrite, HasShortTail, IsStill, made_durable, next_of, on_volume, with_block, with_page, written};
 
 use crate::frames::Frames;
@@ -61,6 +61,7 @@ impl<V: Volume> Store<V> {
     pub fn end(&self) -> u64
         ensures value { result ≡ next_of self.now }
         ensures bound { next_of self.now ≤ MAX_LOG + BATCH_HEADER }
+        ensures next { EndsNext self.now.journal }
     {
         self.journal.end()
     }
@@ -79,7 +80,8 @@ impl<V: Volume> Store<V> {
     ///
     /// [`LogFull`] exactly where the end, `cost` and `owed` are together over the limit.
     pub fn room(&self, cost: u64, owed: u64) -> Result<(), LogFull>
-        ensures { MatchResult result (λ _. next_of self.now + cost + owed ≤ self.now.journal.log.limit)
+        ensures next { EndsNext self.now.journal }
+        ensures fits { MatchResult result (λ _. next_of self.now + cost + owed ≤ self.now.journal.log.limit)
             (λ full. (full.end ≡ next_of self.now) × (self.now.journal.log.limit < next_of self.now + cost + owed)) }
     {
         self.journal.room(cost, owed)
@@ -144,6 +146,7 @@ impl<V: Volume> Store<V> {
     pub fn write(&mut self, what: LogRecord) -> Result<Lsn, ApplyRefused>
         requires is_record { IsRecord what }
         requires short { HasShortTail self.old }
+        ensures next { EndsNext self.old.journal }
         ensures lsn { IfOk result (λ lsn. lsn.0 ≡ next_of self.old) }
         ensures ok { OnOk result (self.new ≡ written self.old what) }
         ensures unfit { IfErr result (λ e. e ≡ refused.Unfit → CannotWrite self.old what) }
@@ -167,7 +170,7 @@ impl<V: Volume> Store<V> {
     pub fn flush(&mut self) -> Result<(), Fault>
         requires { IsTrue self.old.journal.is_known }
         ensures ok { OnOk result (self.new ≡ made_durable self.old self.new.journal.volume) }
-        ensures empty { self.old.journal.log.tail ≡ [] → self.new ≡ self.old }
+        ensures empty { self.old.journal.log.tail ≡ [] → IsOk result × (self.new ≡ self.old) }
         ensures err { OnErr result (IsStill self.old self.new) }
         ensures cause { FailsIn V.Volume Area.Log self.old.journal.opened self.new.journal.volume result }
     {
@@ -181,6 +184,7 @@ impl<V: Volume> Store<V> {
     /// As [`Store::flush`].
     pub fn flush_long(&mut self) -> Result<(), Fault>
         requires { IsTrue self.old.journal.is_known }
+        ensures free { HasShortTail self.old → IsOk result × (self.new ≡ self.old) }
         ensures short { OnOk result (HasShortTail self.new) }
         ensures ok { OnOk result ((self.new ≡ self.old) ⊎ (self.new ≡ made_durable self.old self.new.journal.volume)) }
         ensures err { OnErr result (IsStill self.old self.new) }

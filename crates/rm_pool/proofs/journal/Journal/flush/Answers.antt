@@ -26,9 +26,11 @@ returns-in-Ok-clause-empty g c = λ none.
     let it = c.self.inside in
     let known = known_of c.self.invariant.0 c.self.view_is c.requires in
     let empty : it.log.tail ≡ [] = ap (λ (journal : JournalValue _). journal.log.tail) c.self.view_is ∙ none in
-    let stays = c.in-Ok.ensures.empty empty in
-    rw c.flushed-self-inside.ensures
-    ((λ i. view_of (stays.2 i) it.opened (stays.1 i) (record it.past { durable = sym (all_durable known empty) i })) ∙ c.self.view_is)
+    let stays = c.in-Ok.ensures.empty empty in (
+      stays.0,
+      rw c.flushed-self-inside.ensures
+          ((λ i. view_of (stays.2 i) it.opened (stays.1 i) (record it.past { durable = sym (all_durable known empty) i })) ∙ c.self.view_is),
+    )
 
 pub returns-in-Ok-clause-images : goal.returns-in-Ok-clause-images
 returns-in-Ok-clause-images g c = rw (← c.self.view_is) (flush_between (known_of c.self.invariant.0 c.self.view_is c.requires) c.flush.ensures.steps.0)
