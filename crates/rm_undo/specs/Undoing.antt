@@ -1,5 +1,5 @@
 -- What the undo of a change writes, and why it cannot be written.
-use Rattle.std.specs.Prelude.{◌≡◌, ℕ, ◌/◌, ◌⊎◌, Option, Some, None, ◌∷◌}
+use Rattle.std.specs.Prelude.{◌≡◌, ℕ, ◌/◌, ◌<◌, ◌⊎◌, Option, Some, None, ◌∷◌}
 use Rattle.rm_types.specs.declared.formats.Format.{Format}
 use Rattle.rm_types.specs.declared.numbers.Lsn.{Lsn}
 use Rattle.rm_types.specs.declared.numbers.Rid.{Rid}
@@ -11,6 +11,7 @@ use Rattle.rm_record.specs.declared.records.LogRecord.{LogRecord}
 use Rattle.rm_record.specs.declared.records.LogRecord.TheVariants.{Compensate, Inventory}
 use Rattle.rm_history.specs.Acts.{Change, History, enters, undoes}
 use Rattle.rm_history.specs.Contents.{entry_of}
+use Rattle.rm_history.specs.Sizes.{IsNext}
 use Rattle.rm_history.specs.Undoing.{category_after, entry_for, undo_for}
 use Rattle.rm_pool.specs.Stores.{CannotWrite, StoreValue, next_of, on_volume, with_block, with_page, written}
 use Rattle.rm_undo.specs.Changes.{IsAstray}
@@ -22,10 +23,10 @@ with_entry store page = with_block (with_page store page) (page / BLOCK_PAGES)
 
 -- ---- before the undo
 
--- Of a store: a page and its block are fixed, and a category is entered for it if a record was written.
+-- Of a store: a page and its block are fixed, and a category is entered for it if that wrote a record, which has the LSN.
 abbrev pub Settled : {V : Type 0} → TxnId → StoreValue V → Option Lsn → StoreValue V → Type 0
 Settled txn old None new = (page : ℕ) × (new ≡ with_entry (on_volume old new.journal.volume) page)
-Settled txn old (Some lsn) new = (page : ℕ) × (category : ℕ) × (lsn.0 ≡ next_of old)
+Settled txn old (Some lsn) new = (page : ℕ) × (category : ℕ) × (lsn.0 ≡ next_of old) × IsNext old.journal.history lsn.0
     × (new ≡ written (with_entry (on_volume old new.journal.volume) page) (Inventory txn page category))
 
 -- and of the history: the page's entry was right for the undo of the change, or it is entered
@@ -36,11 +37,15 @@ SettlesFor format c before (Some lsn) new = (entry_of before c.rid.page ≡ cate
 
 -- ---- the undo
 
--- Of a store: the page is fixed, and the compensation of the change with that LSN is written.
+-- Of a store: a page of the file is fixed, and the compensation of the change with that LSN is written. The pending record below
+-- the change is below it.
 pub record Compensated {V : Type 0} (txn : TxnId) (change : Lsn) (old : StoreValue V) (undone : Undone) (new : StoreValue V) : Type 0 where
   pub rid : Rid
   pub back : Slot
   pub lsn : undone.lsn.0 ≡ next_of old
+  pub above : IsNext old.journal.history undone.lsn.0
+  pub inside : rid.page < old.frames.size
+  pub below : undone.next.0 < change.0
   pub page : undone.page ≡ rid.page
   pub before : undone.before ≡ row_length back
   pub new_is : new ≡ written (with_page (on_volume old new.journal.volume) rid.page) (Compensate txn change undone.next rid back)

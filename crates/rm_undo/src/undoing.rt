@@ -9,6 +9,7 @@ ghost use Rattle.rm_outside.specs.Calls.{StoreFailsIn};
 ghost use Rattle.rm_record.specs.Records.{IsRecord, IsTxn};
 ghost use Rattle.rm_record.specs.declared.records.TheConstants.{MAX_RECORDED_CATEGORY};
 ghost use Rattle.rm_history.specs.Contents.{entry_of};
+ghost use Rattle.rm_pool.specs.Journals.{EndsNext};
 ghost use Rattle.rm_pool.specs.Stores.{CannotWrite, HasShortTail, IsStill, next_of, written};
 ghost use Rattle.rm_undo.specs.Changes.{IsDamageAt, OfChange, category_without};
 ghost use Rattle.rm_undo.specs.Undoing.{CannotSettle, CannotUndo, Compensated, CompensatedFor, Settled, SettlesFor};
@@ -66,6 +67,7 @@ fn category_to_enter<V: Volume>(store: &Store<V>, format: Format, pending: &Pend
 fn write<V: Volume>(store: &mut Store<V>, what: LogRecord, lsn: Lsn) -> Result<Lsn, StoreFault>
     requires is_record { IsRecord what }
     requires short { HasShortTail store.old }
+    ensures next { EndsNext store.old.journal }
     ensures lsn { IfOk result (λ lsn. lsn.0 ≡ next_of store.old) }
     ensures ok { OnOk result (store.new ≡ written store.old what) }
     ensures err { OnErr result (store.new ≡ store.old) }
