@@ -1,5 +1,5 @@
 -- The change that a record makes is that of its act.
-use Rattle.std.proofs.Common.{◌≡◌, ℕ, refl, sym, subst, Option, Some, None, IfSome, IsSomeAnd, Result, Ok, Err, IfErr, IsErrAnd}
+use Rattle.std.proofs.Common.{◌≡◌, ℕ, refl, sym, subst, Option, IfSome, IsSomeAnd, Result, Ok, Err, IfErr, IsErrAnd}
 use Rattle.rm_types.specs.declared.areas.Area.{Area}
 use Rattle.rm_types.specs.declared.areas.Area.TheVariants.{Log}
 use Rattle.rm_types.specs.declared.faults.Fault.TheVariants as fault
@@ -8,9 +8,9 @@ use Rattle.rm_types.specs.declared.faults.StoreFault.TheVariants as store
 use Rattle.rm_types.specs.declared.numbers.Lsn.{Lsn}
 use Rattle.rm_record.specs.declared.records.LogRecord.{LogRecord}
 use Rattle.rm_record.specs.declared.records.LogRecord.TheVariants.{Insert, Delete, Update, Compensate, Inventory, Commit, End, Checkpoint}
-use Rattle.rm_record.specs.Records.{IsRecord, IsSlot}
-use Rattle.rm_history.specs.Acts.{Act, Change, History, act_at, changes, undoes, enters, commits, ends, marks}
-use Rattle.rm_pool.specs.Journals.{IsRecordAt, HasNoRecordAt}
+use Rattle.rm_record.specs.Records.{IsRecord}
+use Rattle.rm_history.specs.Acts.{Change, History, act_at, changes}
+use Rattle.rm_pool.specs.Journals.{IsRecordAt}
 use Rattle.rm_undo.specs.declared.changes.Pending.{Pending}
 use Rattle.rm_undo.specs.Changes.{HasChangeAt, IsDamageAt, IsOf, MayGoBack, change_in}
 
@@ -43,7 +43,8 @@ goes_back (Checkpoint next losers pages blocks) is = tt
 
 -- a damage, from what is said of each answer
 pub damage_of : {T : Type 0} (lsn : Lsn) {Why : Type 0} (stored : StoreFault)
-    → ((area : Area) (at : ℕ) → (let outcome : Result T StoreFault = Err stored in outcome ≡ Err (store.Fault (fault.Damaged area at))) → (area ≡ Log) × (at ≡ lsn.0) × Why)
+    → ((area : Area) (at : ℕ) → (let outcome : Result T StoreFault = Err stored in outcome ≡ Err (store.Fault (fault.Damaged area at)))
+    → (area ≡ Log) × (at ≡ lsn.0) × Why)
     → IsDamageAt lsn Why stored
 damage_of lsn (store.Fault (fault.Damaged area at)) each = each area at refl
 damage_of lsn (store.Fault (fault.Volume area)) each = tt

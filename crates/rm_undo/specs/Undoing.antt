@@ -7,7 +7,6 @@ use Rattle.rm_types.specs.declared.numbers.TxnId.{TxnId}
 use Rattle.rm_types.specs.declared.numbers.TheConstants.{BLOCK_PAGES}
 use Rattle.rm_types.specs.declared.slots.Slot.{Slot}
 use Rattle.rm_model.specs.Pages.{row_length}
-use Rattle.rm_record.specs.declared.records.LogRecord.{LogRecord}
 use Rattle.rm_record.specs.declared.records.LogRecord.TheVariants.{Compensate, Inventory}
 use Rattle.rm_history.specs.Acts.{Change, History, enters, undoes}
 use Rattle.rm_history.specs.Contents.{entry_of}

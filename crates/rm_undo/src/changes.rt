@@ -50,7 +50,8 @@ fn change_in(what: LogRecord) -> Option<Pending>
             new: _new,
         } => (txn, under, rid, need, Slot::Row(old)),
         LogRecord::Compensate { back: _back, .. } => return None,
-        LogRecord::Inventory { .. } | LogRecord::Commit { .. } | LogRecord::End { .. } => return None,
+        LogRecord::Inventory { .. } | LogRecord::Commit { .. } | LogRecord::End { .. } =>
+            return None,
         LogRecord::Checkpoint {
             losers: _losers,
             pages: _pages,

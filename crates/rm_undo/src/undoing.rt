@@ -59,8 +59,14 @@ fn category_to_enter<V: Volume>(store: &Store<V>, format: Format, pending: &Pend
 {
     let len = usize::from(held_bytes(&pending.before));
     let category = store.page().category_with(format, pending.rid.slot, len);
-    let entry = store.inventory().entry((pending.rid.page % BLOCK_PAGES) as u16);
-    if entry == category { None } else { Some(category) }
+    let entry = store
+        .inventory()
+        .entry((pending.rid.page % BLOCK_PAGES) as u16);
+    if entry == category {
+        None
+    } else {
+        Some(category)
+    }
 }
 
 // Writes a record of the undo of the change with that LSN.
@@ -115,7 +121,15 @@ pub fn undo_settle<V: Volume>(
     let Some(category) = category_to_enter(store, format, &pending) else {
         return Ok(None);
     };
-    Ok(Some(write(store, LogRecord::Inventory { txn, page, category }, lsn)?))
+    Ok(Some(write(
+        store,
+        LogRecord::Inventory {
+            txn,
+            page,
+            category,
+        },
+        lsn,
+    )?))
 }
 
 /// Undoes the transaction's change with that LSN: writes the compensation, which moves to the slot what it held. The
@@ -124,7 +138,12 @@ pub fn undo_settle<V: Volume>(
 /// # Errors
 ///
 /// As [`undo_settle`].
-pub fn undo_change<V: Volume>(store: &mut Store<V>, alloc: Global, txn: TxnId, lsn: Lsn) -> Result<Undone, StoreFault>
+pub fn undo_change<V: Volume>(
+    store: &mut Store<V>,
+    alloc: Global,
+    txn: TxnId,
+    lsn: Lsn,
+) -> Result<Undone, StoreFault>
     requires known { IsTrue store.old.journal.is_known }
     requires short { HasShortTail store.old }
     requires txn { IsTxn txn }

@@ -27,7 +27,8 @@ returns-then-ne-clause-damaged g c = rw c.damaged-then-ne.ensures (
   refl,
   refl,
   λ models change has.
-      let of : IsOf change c.in-Some.pending = made_at c.in_ok-found.found (sym c.change_in.ensures ∙ c.in-Some.is) (c.in_ok-found.ensures.found models) has in
+      let makes = sym c.change_in.ensures ∙ c.in-Some.is in
+      let of : IsOf change c.in-Some.pending = made_at c.in_ok-found.found makes (c.in_ok-found.ensures.found models) has in
       let same : c.in-Some.pending.txn.0 ≡ c.args.txn.0 = of.txn ∙ has.txn_is in
       elim c.then-ne.branch [
         | then-ne-via-then-ne w ↦ absurd (grind (arith, nat_tests))
@@ -40,7 +41,10 @@ returns-then-ne-clause-damaged g c = rw c.damaged-then-ne.ensures (
 )
 
 pub returns-clause-found : goal.returns-clause-found
-returns-clause-found g c = λ models change has. made_at c.in_ok-found.found (sym c.change_in.ensures ∙ c.in-Some.is) (c.in_ok-found.ensures.found models) has
+returns-clause-found g c = λ models change has.
+    made_at c.in_ok-found.found (sym c.change_in.ensures ∙ c.in-Some.is) (c.in_ok-found.ensures.found models) has
 
 pub returns-clause-back : goal.returns-clause-back
-returns-clause-back g c = subst (λ (o : Option Pending). IfSome o MayGoBack) (sym c.change_in.ensures ∙ c.in-Some.is) (goes_back c.in_ok-found.found c.in_ok-found.ensures.is_record)
+returns-clause-back g c =
+    let found = c.in_ok-found in
+    subst (λ (o : Option Pending). IfSome o MayGoBack) (sym c.change_in.ensures ∙ c.in-Some.is) (goes_back found.found found.ensures.is_record)

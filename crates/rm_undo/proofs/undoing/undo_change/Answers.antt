@@ -3,9 +3,9 @@ use Rattle.rm_record.specs.declared.records.LogRecord.TheVariants.{Compensate}
 use Rattle.rm_history.specs.Acts.{Act}
 use Rattle.rm_model.specs.Pages.{row_length}
 use Rattle.rm_types.specs.declared.numbers.Rid.{Rid}
-use Rattle.rm_pool.specs.Stores.{CannotWrite, StoreValue, on_volume, with_page, written}
+use Rattle.rm_pool.specs.Stores.{CannotWrite, StoreValue, with_page, written}
 use Rattle.rm_undo.proofs.ChangeLaws.{passed}
-use Rattle.rm_undo.proofs.UndoLaws.{of_change, undid}
+use Rattle.rm_undo.proofs.UndoLaws.{fixed_is, of_change, undid}
 use Rattle.rm_undo.proofs.undoing.undo_change.Goals as goal
 
 pub returns-in_err-pending-clause-damaged : goal.returns-in_err-pending-clause-damaged
@@ -16,18 +16,20 @@ returns-in_err-pending-clause-damaged g c =
 pub returns-in_err-lsn-clause-damaged : goal.returns-in_err-lsn-clause-damaged
 returns-in_err-lsn-clause-damaged g c =
     let pending = c.in_ok-pending.pending in
-    let fixed = c.in_ok-fix.ensures.ok ∙ ap (λ (store : StoreValue _). with_page (on_volume store c.fix.new.self.journal.volume) pending.rid.page) c.in_ok-pending.ensures.same in
-    passed c.args.lsn c.from_residual-in_err-lsn.result c.in_err-lsn.field-0.0 c.from_residual-in_err-lsn.ensures.1 c.in_err-lsn.ensures.damaged (λ cannot models change has.
-        let still = subst (λ (store : StoreValue _). g.V.Volume.models_content store.journal.volume) c.in_err-lsn.ensures.err models in
-        inr (of_change (c.in_ok-pending.ensures.found (c.in_ok-fix.ensures.modelled still) change has)
-            (λ under rid back. CannotWrite (with_page c.args.store.now rid.page) (Compensate c.args.txn c.args.lsn under rid back))
-            (subst (λ (store : StoreValue _). CannotWrite store (Compensate c.args.txn c.args.lsn pending.under pending.rid pending.before)) fixed cannot)))
+    let fixed = fixed_is c.args.store.now c.in_ok-pending.ensures.same c.in_ok-fix.ensures.ok in
+    passed c.args.lsn c.from_residual-in_err-lsn.result c.in_err-lsn.field-0.0 c.from_residual-in_err-lsn.ensures.1 c.in_err-lsn.ensures.damaged
+    (λ cannot models change has.
+    let still = subst (λ (store : StoreValue _). g.V.Volume.models_content store.journal.volume) c.in_err-lsn.ensures.err models in
+    let of = c.in_ok-pending.ensures.found (c.in_ok-fix.ensures.modelled still) change has in
+    let what = Compensate c.args.txn c.args.lsn pending.under pending.rid pending.before in
+    inr (of_change of (λ under rid back. CannotWrite (with_page c.args.store.now rid.page) (Compensate c.args.txn c.args.lsn under rid back))
+    (subst (λ (store : StoreValue _). CannotWrite store what) fixed cannot)))
 
 pub returns-clause-undoes : goal.returns-clause-undoes
 returns-clause-undoes g c = λ models change has.
     let pending = c.in_ok-pending.pending in
     let what = Compensate c.args.txn c.args.lsn pending.under pending.rid pending.before in
-    let fixed = c.in_ok-fix.ensures.ok ∙ ap (λ (store : StoreValue _). with_page (on_volume store c.fix.new.self.journal.volume) pending.rid.page) c.in_ok-pending.ensures.same in
+    let fixed = fixed_is c.args.store.now c.in_ok-pending.ensures.same c.in_ok-fix.ensures.ok in
     let still = subst (λ (store : StoreValue _). g.V.Volume.models_content store.journal.volume) c.in_ok-lsn.ensures.ok models in
     let of = c.in_ok-pending.ensures.found (c.in_ok-fix.ensures.modelled still) change has in
     record {

@@ -13,12 +13,13 @@ pub returns-in_default-clause-settles : goal.returns-in_default-clause-settles
 returns-in_default-clause-settles g c = λ models change has.
     let past = λ (store : StoreValue _). store.journal.history in
     let same = ap past c.in_ok-fix_block.ensures.ok ∙ ap past c.in_ok-fix.ensures.ok ∙ ap past c.in_ok-pending.ensures.same in
-    is_right (c.in_ok-pending.ensures.found (c.in_ok-fix.ensures.modelled (c.in_ok-fix_block.ensures.modelled models)) change has) same c.args.format c.in_default.ensures.right
+    let of = c.in_ok-pending.ensures.found (c.in_ok-fix.ensures.modelled (c.in_ok-fix_block.ensures.modelled models)) change has in
+    is_right of same c.args.format c.in_default.ensures.right
 
 pub returns-clause-settles : goal.returns-clause-settles
 returns-clause-settles g c = λ models change has.
     let past = λ (store : StoreValue _). store.journal.history in
     let same = ap past c.in_ok-fix_block.ensures.ok ∙ ap past c.in_ok-fix.ensures.ok ∙ ap past c.in_ok-pending.ensures.same in
     let still = subst (λ (store : StoreValue _). g.V.Volume.models_content store.journal.volume) c.in_ok-write.ensures.ok models in
-    is_entered (c.in_ok-pending.ensures.found (c.in_ok-fix.ensures.modelled (c.in_ok-fix_block.ensures.modelled still)) change has) same c.args.format has
-        c.in-Some.ensures.value c.in-Some.ensures.wrong c.in_ok-write.ensures.lsn (ap past c.in_ok-write.ensures.ok)
+    let of = c.in_ok-pending.ensures.found (c.in_ok-fix.ensures.modelled (c.in_ok-fix_block.ensures.modelled still)) change has in
+    is_entered of same c.args.format has c.in-Some.ensures.value c.in-Some.ensures.wrong c.in_ok-write.ensures.lsn (ap past c.in_ok-write.ensures.ok)
