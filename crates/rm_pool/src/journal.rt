@@ -188,6 +188,7 @@ impl<V: Volume> Journal<V> {
     /// [`StoreFault::NoMemory`].
     pub fn at(&mut self, alloc: Global, lsn: Lsn) -> Result<LogRecord, StoreFault>
         requires { IsTrue self.old.is_known }
+        ensures is_record { IfOk result IsRecord }
         ensures found { IfOk result (λ found. V.models_content self.new.volume → IsRecordAt self.old.history lsn.0 found) }
         ensures damaged { (area : Areas) (at : ℕ) → result ≡ Err (StoreFault.Fault (Fault.Damaged area at)) → (area ≡ Area.Log) × (at ≡ lsn.0) × (V.models_content self.new.volume → HasNoRecordAt self.old.history lsn.0) }
         ensures any_moment { AtEachMoment V.Volume self.old.volume self.new.volume (IsBetween self.old.durable self.old.history) }

@@ -96,6 +96,7 @@ impl<V: Volume> Store<V> {
         requires { page < self.old.frames.size }
         ensures ok { OnOk result (self.new ≡ with_page (on_volume self.old self.new.journal.volume) page) }
         ensures done { IsOk result }
+        ensures modelled { V.models_content self.new.journal.volume → V.models_content self.old.journal.volume }
     {
         self.frames.fix(page);
         Ok(())
@@ -118,6 +119,7 @@ impl<V: Volume> Store<V> {
         requires { BLOCK_PAGES * block < self.old.frames.size }
         ensures ok { OnOk result (self.new ≡ with_block (on_volume self.old self.new.journal.volume) block) }
         ensures done { IsOk result }
+        ensures modelled { V.models_content self.new.journal.volume → V.models_content self.old.journal.volume }
     {
         self.frames.fix_block(block);
         Ok(())
@@ -202,6 +204,7 @@ impl<V: Volume> Store<V> {
     /// [`StoreFault::NoMemory`].
     pub fn at(&mut self, alloc: Global, lsn: Lsn) -> Result<LogRecord, StoreFault>
         requires { IsTrue self.old.journal.is_known }
+        ensures is_record { IfOk result IsRecord }
         ensures found { IfOk result (λ found. V.models_content self.new.journal.volume → IsRecordAt self.old.journal.history lsn.0 found) }
         ensures damaged { (area : Areas) (at : ℕ) → result ≡ Err (StoreFault.Fault (Fault.Damaged area at)) → (area ≡ Area.Log) × (at ≡ lsn.0) × (V.models_content self.new.journal.volume → HasNoRecordAt self.old.journal.history lsn.0) }
         ensures cause { StoreFailsIn V.Volume Area.Log self.old.journal.opened self.new.journal.volume result }
