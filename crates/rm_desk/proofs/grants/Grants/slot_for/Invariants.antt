@@ -1,0 +1,16 @@
+use Rattle.std.proofs.Common.{◌≡◌, ℕ, ◌<◌, ◌-◌, ◌+◌, None}
+use Rattle.rm_types.specs.declared.numbers.TheConstants.{MAX_SLOT}
+use Rattle.rm_types.specs.declared.slots.Slot.TheVariants.{Vacant}
+use Rattle.rm_model.specs.Pages.{row_at, slot_at}
+use Rattle.rm_core.specs.Searching.{IsHeld}
+use Rattle.rm_desk.proofs.grants.Grants.slot_for.Given as goal
+
+abbrev pub invariant-loop-self : goal.invariant-loop-self
+invariant-loop-self l =
+    record {
+      vacant : row_at l.page.slots l.slot ≡ None;
+      least : (lower : ℕ) → lower < l.slot → slot_at l.page.slots lower ≡ Vacant → (IsHeld l.self.grants l.txn.0 l.number lower → ⊥) → ⊥;
+    }
+
+abbrev pub decreases-loop-self : goal.decreases-loop-self
+decreases-loop-self l = (MAX_SLOT + 1) - l.slot
