@@ -3,6 +3,11 @@
 //! [`Grants`] has the row locks: its value is the machine's list of them.
 #![tactic(auto)]
 
+mod desk;
 mod grants;
+mod sessions;
+mod stages;
 
+pub use desk::Desk;
 pub use grants::Grants;
+pub use stages::{Aim, Outcome, Stage};

@@ -1,0 +1,191 @@
+-- The tables stand for the sessions after a move of one of them.
+use Rattle.std.proofs.Common.{◌≡◌, ℕ, ◌+◌, ◌<◌, ◌≤◌, ◌⊎◌, inl, inr, Bool, true, false, if◌then◌else◌, ◌==◌, List, [], ◌∷◌, length, slice_index_or, slice_set, Option, Some, None, IsSome, IfSome, refl, sym, ap, subst, ◌∙◌, arith}
+use Rattle.std.proofs.lemmas.Bool.{cases_eq, cases_lt, ne_eqb, false≢true}
+use Rattle.std.proofs.lemmas.List.{length-set, get_or-set_same, get_or-set_other, get_or_past}
+use Rattle.rm_types.specs.declared.numbers.Lsn.{Lsn}
+use Rattle.rm_types.specs.declared.numbers.TheConstants.{MAX_SESSIONS}
+use Rattle.rm_model.specs.Sums.{sum_below}
+use Rattle.rm_model.proofs.Sums.{sum_below-one, sum_below-same}
+use Rattle.rm_history.specs.Acts.{Change, History, changes, undoes, enters, commits, ends, marks}
+use Rattle.rm_history.specs.Needs.{need_of, need_for, on_page}
+use Rattle.rm_history.specs.Room.{others_need}
+use Rattle.rm_history.specs.Transactions.{greatest_txn}
+use Rattle.rm_history.proofs.PendingSteps.{pending-change_other, pending-undo_other, pending-commit_other, pending-end_other}
+use Rattle.rm_history.specs.Pending.{pending_of, last_of}
+use Rattle.rm_core.specs.Effects.{staged}
+use Rattle.rm_core.specs.Room.{TXN_BYTES, bytes_for, owes_at, owed_by}
+use Rattle.rm_core.specs.State as state
+use Rattle.rm_core.specs.State.{Seat, seat_at, empty_seat, forces, finishes}
+use Rattle.rm_need.specs.Needs.{Reserved, need_in, with_need}
+use Rattle.rm_txns.specs.declared.transaction.Txn.{Txn}
+use Rattle.rm_txns.specs.Tables.{Table, txn_of, owed_of, owed_by as total_of, ChangesOnly, HasId}
+use Rattle.rm_desk.specs.declared.stages.Stage.{Stage}
+use Rattle.rm_desk.specs.declared.stages.Stage.TheVariants.{Idle}
+use Rattle.rm_desk.specs.Stages.{stage_of}
+use Rattle.rm_desk.specs.Desks.{Sessions, is_over, seat_from, stage_at, goes, owed_in, IsAccounted, Accounts, Stands}
+
+owes_is : (stage : state.Stage) (bytes : ℕ) → owes_at stage bytes ≡ (if is_over stage then 0 else TXN_BYTES + bytes)
+owes_is forces bytes = refl
+owes_is finishes bytes = refl
+owes_is other bytes = refl
+
+-- what a transaction owes is what its seat owes
+owed_is : (history : History) (stage : state.Stage) (txn : Option Txn) → Accounts history stage txn → owed_by history (seat_from txn stage) ≡ owed_of txn
+owed_is history stage None is = refl
+owed_is history stage (Some txn) is =
+    let some : txn.id.0 ≡ 0 → ⊥ = λ none. omega (arith, none, is.some) in
+    rw (ne_eqb txn.id.0 0 some) (owes_is stage (bytes_for (pending_of history txn.id.0)) ∙ sym is.owed)
+
+-- where its changes are the same, it is accounted for as before
+accounts_same : (old new : History) (stage : state.Stage) (txn : Option Txn) → ((id : ℕ) → HasId txn id → pending_of new id ≡ pending_of old id)
+    → Accounts old stage txn → Accounts new stage txn
+accounts_same old new stage None same is = is
+accounts_same old new stage (Some txn) same is =
+    let pending = same txn.id.0 refl in record { some = is.some; undo = rw pending is.undo; owed = rw pending is.owed; over = is.over }
+
+-- one session has another transaction or stage, and maybe a record is logged
+pub record Moved (table after : Table) (needs left : Reserved) (stages : List Stage) (s : Sessions) (k : ℕ) (txn : Option Txn) (stage : Stage) (history : History) (next : ℕ) : Type 0 where
+  pub stands : Stands table needs stages s
+  pub among : k < MAX_SESSIONS
+  pub only : ChangesOnly (record table { next = next }) after (k + 1) txn
+  pub more : table.next ≤ next
+  pub others : (j id : ℕ) → (j ≡ k → ⊥) → HasId (txn_of table (j + 1)) id → pending_of history id ≡ pending_of s.history id
+  pub accounted : Accounts history (stage_of stage) txn
+  pub needed : (page id : ℕ) → need_in left page id ≡ need_of history id page
+
+pub moved : (table after : Table) (needs left : Reserved) (stages : List Stage) (s : Sessions) (k : ℕ) (txn : Option Txn) (stage : Stage) (history : History) (next : ℕ)
+    → Moved table after needs left stages s k txn stage history next
+    → Stands after left (slice_set stages k stage) (record { history = history; seats = slice_set s.seats k (seat_from txn (stage_of stage)); next = next })
+moved table after needs left stages s k txn stage history next m = record {
+  sized = length-set s.seats k seat ∙ m.stands.sized;
+  staged = length-set stages k stage ∙ m.stands.staged;
+  first = omega (arith, m.only.next, m.more, m.stands.first);
+  next = m.only.next;
+  seated = seated;
+  accounted = λ j inside. accounted j inside (cases_eq j k);
+  owes = owes;
+  needed = m.needed;
+}
+  where
+    seat : Seat
+    seat = seat_from txn (stage_of stage)
+
+    stage_here : stage_at (slice_set stages k stage) k ≡ stage_of stage
+    stage_here = let lt : k < length stages = omega (arith, m.among, m.stands.staged) in rw get_or-set_same refl
+
+    stage_there : (j : ℕ) → (j ≡ k → ⊥) → stage_at (slice_set stages k stage) j ≡ stage_at stages j
+    stage_there j apart = rw get_or-set_other refl
+
+    txn_there : (j : ℕ) → (j ≡ k → ⊥) → txn_of after (j + 1) ≡ txn_of table (j + 1)
+    txn_there j apart = m.only.others (j + 1) (λ same. apart (omega (arith, same)))
+
+    seat_here : seat_at (slice_set s.seats k seat) k ≡ seat
+    seat_here = let lt : k < length s.seats = omega (arith, m.among, m.stands.sized) in rw get_or-set_same refl
+
+    seat_there : (j : ℕ) → (j ≡ k → ⊥) → seat_at (slice_set s.seats k seat) j ≡ seat_at s.seats j
+    seat_there j apart = rw get_or-set_other refl
+
+    seated : (j : ℕ) → j < MAX_SESSIONS → seat_at (slice_set s.seats k seat) j ≡ seat_from (txn_of after (j + 1)) (stage_at (slice_set stages k stage) j)
+    seated j inside = elim (cases_eq j k) [
+      | inl same ↦ rw (same, seat_here, m.only.here, stage_here) refl
+      | inr apart ↦ rw (seat_there j apart, txn_there j apart, stage_there j apart) (m.stands.seated j inside)
+    ]
+
+    accounted : (j : ℕ) → j < MAX_SESSIONS → (j ≡ k) ⊎ (j ≡ k → ⊥) → Accounts history (stage_at (slice_set stages k stage) j) (txn_of after (j + 1))
+    accounted j inside (inl same) = rw (same, m.only.here, stage_here) m.accounted
+    accounted j inside (inr apart) =
+        rw (txn_there j apart, stage_there j apart) (accounts_same s.history history (stage_at stages j) (txn_of table (j + 1)) (λ id. m.others j id apart) (m.stands.accounted j inside))
+
+    owes : total_of after ≡ owed_in (record { history = history; seats = slice_set s.seats k seat; next = next })
+    owes =
+        let f = λ (j : ℕ). owed_by s.history (seat_at s.seats j) in
+        let g = λ (j : ℕ). owed_by history (seat_at (slice_set s.seats k seat) j) in
+        let lt : k < length s.seats = omega (arith, m.among, m.stands.sized) in
+        let sums : sum_below g (length s.seats) + f k ≡ sum_below f (length s.seats) + g k = sum_below-one f g k (length s.seats) same lt in
+        let old : f k ≡ owed_of (txn_of table (k + 1)) =
+        ap (owed_by s.history) (m.stands.seated k m.among) ∙ owed_is s.history (stage_at stages k) (txn_of table (k + 1)) (m.stands.accounted k m.among) in
+        let new : g k ≡ owed_of txn = ap (owed_by history) seat_here ∙ owed_is history (stage_of stage) txn m.accounted in
+        let all : owed_in (record { history = history; seats = slice_set s.seats k seat; next = next }) ≡ sum_below g (length s.seats) = ap (sum_below g) (length-set s.seats k seat) in
+        omega (arith, m.only.owed, m.stands.owes, sums, old, new, all)
+      where
+        same : (j : ℕ) → (j ≡ k → ⊥) → owed_by history (seat_at (slice_set s.seats k seat) j) ≡ owed_by s.history (seat_at s.seats j)
+        same j apart = elim (cases_lt j MAX_SESSIONS) [
+          | inl inside ↦
+              let old = m.stands.accounted j inside in
+              let new = accounts_same s.history history (stage_at stages j) (txn_of table (j + 1)) (λ id. m.others j id apart) old in
+              ap (owed_by history) (seat_there j apart ∙ m.stands.seated j inside) ∙ owed_is history (stage_at stages j) (txn_of table (j + 1)) new
+              ∙ sym (ap (owed_by s.history) (m.stands.seated j inside) ∙ owed_is s.history (stage_at stages j) (txn_of table (j + 1)) old)
+          | inr past ↦
+              let none : seat_at s.seats j ≡ empty_seat = get_or_past s.seats j empty_seat (omega (arith, past, m.stands.sized)) in
+              rw (seat_there j apart, none) refl
+        ]
+
+-- ---- a stage alone
+
+staged_is : (txn : Option Txn) (before after : state.Stage) → staged (seat_from txn before) after ≡ seat_from txn after
+staged_is None before after = refl
+staged_is (Some txn) before after = refl
+
+accounts_at : (history : History) (before after : state.Stage) (txn : Option Txn) → is_over after ≡ is_over before → Accounts history before txn → Accounts history after txn
+accounts_at history before after None over is = is
+accounts_at history before after (Some txn) over is = record { some = is.some; undo = is.undo; owed = rw over is.owed; over = rw over is.over }
+
+pub stays : (table : Table) (needs : Reserved) (stages : List Stage) (s : Sessions) → Stands table needs stages s → (k : ℕ) → k < MAX_SESSIONS → (stage : Stage)
+    → is_over (stage_of stage) ≡ is_over (seat_at s.seats k).stage → Stands table needs (slice_set stages k stage) (goes s k (stage_of stage))
+stays table needs stages s stands k among stage over =
+    let txn = txn_of table (k + 1) in
+    let before = stage_at stages k in
+    let seat : staged (seat_at s.seats k) (stage_of stage) ≡ seat_from txn (stage_of stage) =
+    ap (λ (at : Seat). staged at (stage_of stage)) (stands.seated k among) ∙ staged_is txn before (stage_of stage) in
+    let stage_is : (seat_at s.seats k).stage ≡ before = ap (λ (at : Seat). at.stage) (stands.seated k among) ∙ seat_stage txn before in
+    rw seat (moved table table needs needs stages s k txn stage s.history s.next (record {
+      stands = stands;
+      among = among;
+      only = record { here = refl; others = λ other apart. refl; owed = refl; next = stands.next };
+      more = omega (arith, stands.next);
+      others = λ j id apart has. refl;
+      accounted = accounts_at s.history before (stage_of stage) txn (over ∙ ap is_over stage_is) (stands.accounted k among);
+      needed = stands.needed;
+    }))
+  where
+    seat_stage : (txn : Option Txn) (at : state.Stage) → (seat_from txn at).stage ≡ at
+    seat_stage None at = refl
+    seat_stage (Some txn) at = refl
+
+-- ---- what is read off
+
+-- a session that has a transaction has one in the table
+pub has_txn : (table : Table) (needs : Reserved) (stages : List Stage) (s : Sessions) → Stands table needs stages s → (k : ℕ) → k < MAX_SESSIONS
+    → ((seat_at s.seats k).txn ≡ 0 → ⊥) → IsSome (txn_of table (k + 1))
+has_txn table needs stages s stands k among some = by (txn_of table (k + 1)) (λ none. some (ap (λ (at : Seat). at.txn) (stands.seated k among) ∙ none))
+  where
+    by : (txn : Option Txn) → ((seat_from txn (stage_at stages k)).txn ≡ 0 → ⊥) → IsSome txn
+    by None never = absurd (never refl)
+    by (Some txn) never = refl
+
+pub undo_is : (table : Table) (needs : Reserved) (stages : List Stage) (s : Sessions) → Stands table needs stages s → (k : ℕ) → k < MAX_SESSIONS → (found : Lsn)
+    → ((seat_at s.seats k).txn ≡ 0 → ⊥) → IfSome (txn_of table (k + 1)) (λ txn. found ≡ txn.undo) → found.0 ≡ last_of (pending_of s.history (seat_at s.seats k).txn)
+undo_is table needs stages s stands k among found some is =
+    rw (stands.seated k among) (by (txn_of table (k + 1)) (has_txn table needs stages s stands k among some) (stands.accounted k among) is)
+  where
+    by : (txn : Option Txn) → IsSome txn → Accounts s.history (stage_at stages k) txn → IfSome txn (λ txn. found ≡ txn.undo)
+        → found.0 ≡ last_of (pending_of s.history (seat_from txn (stage_at stages k)).txn)
+    by None some at is = absurd (false≢true some)
+    by (Some txn) some at is = ap (λ (lsn : Lsn). lsn.0) is ∙ at.undo
+
+-- past the greatest id nothing is needed
+pending_past : (history : History) (txn : ℕ) → greatest_txn history < txn → pending_of history txn ≡ []
+pending_past [] txn past = refl
+pending_past (changes c ∷ before) txn past = pending-change_other c before txn (λ same. omega (arith, same, past)) ∙ pending_past before txn (omega (arith, past))
+pending_past (undoes u ∷ before) txn past = pending-undo_other u before txn (λ same. omega (arith, same, past)) ∙ pending_past before txn (omega (arith, past))
+pending_past (enters e ∷ before) txn past = pending_past before txn (omega (arith, past))
+pending_past (commits f ∷ before) txn past = pending-commit_other f before txn (λ same. omega (arith, same, past)) ∙ pending_past before txn (omega (arith, past))
+pending_past (ends f ∷ before) txn past = pending-end_other f before txn (λ same. omega (arith, same, past)) ∙ pending_past before txn (omega (arith, past))
+pending_past (marks m ∷ before) txn past = pending_past before txn past
+
+pub others_is : (table : Table) (needs : Reserved) (stages : List Stage) (s : Sessions) → Stands table needs stages s → (page txn sum : ℕ)
+    → ((n : ℕ) → ((other : ℕ) → n ≤ other → need_in needs page other ≡ 0) → sum ≡ sum_below (with_need needs page txn 0) n) → sum ≡ others_need s.history txn page
+others_is table needs stages s stands page txn sum is =
+    is (greatest_txn s.history + 1) (λ other past. stands.needed page other ∙ ap (λ (l : List Change). need_for (on_page page l)) (pending_past s.history other (omega arith)))
+    ∙ sum_below-same (λ other. if other == txn then 0 else need_of s.history other page) (with_need needs page txn 0) (greatest_txn s.history + 1)
+    (λ other below. ap (λ n. if other == txn then 0 else n) (stands.needed page other))

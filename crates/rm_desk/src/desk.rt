@@ -1,0 +1,153 @@
+//! The sessions' part of the machine, on tables.
+
+ghost use Rattle.std.specs.Prelude.{◌≡◌, ℕ, ◌≤◌, ◌<◌, ◌+◌, ◌^◌, [], replicate, slice_index_or, slice_set};
+ghost use Rattle.rm_types.specs.declared.numbers.TheConstants.{MAX_SESSIONS};
+ghost use Rattle.rm_history.specs.Acts.{History};
+ghost use Rattle.rm_history.specs.Pending.{pending_of, last_of};
+ghost use Rattle.rm_history.specs.Needs.{need_of};
+ghost use Rattle.rm_history.specs.Room.{others_need};
+ghost use Rattle.rm_core.specs.State.{seat_at, empty_seat};
+ghost use Rattle.rm_desk.specs.Stages.{stage_of};
+ghost use Rattle.rm_desk.specs.Desks.{is_over, number_of, owed_in, goes as goes_to};
+
+use crate::sessions::{SessionList, goes};
+use crate::stages::Stage;
+use rm_need::Needs;
+use rm_noted::Noted;
+use rm_txns::Txns;
+use rm_types::{Lsn, MAX_SESSIONS, TxnId};
+use std::alloc::Global;
+use std::marker::Model;
+use std::mem;
+
+const SESSIONS: usize = MAX_SESSIONS as usize;
+
+// Puts a stage at a session's place. The answer is the one before.
+fn place(stages: &mut [Stage; SESSIONS], k: u8, stage: Stage) -> Stage
+    requires { k < MAX_SESSIONS }
+    ensures before { result ≡ slice_index_or stages.old k Stage.Idle }
+    ensures after { stages.new ≡ slice_set stages.old k stage }
+{
+    mem::replace(&mut stages[k as usize], stage)
+}
+
+/// The transactions, their needs and the stages of all sessions, and the history that they are of. A session is named by
+/// its place, from 0.
+#[derive(Drop)]
+pub struct Desk {
+    txns: Txns,
+    needs: Needs,
+    stages: [Stage; SESSIONS],
+    sessions: Noted<SessionList>,
+}
+
+impl Model for Desk {
+    ghost use Rattle.rm_desk.specs.Desks.{DeskValue, Stands};
+
+    ghost Value = { DeskValue };
+
+    ghost view = { λ desk. record { sessions = desk.sessions; entries = desk.needs } };
+
+    ghost invariant = { λ desk. Stands desk.txns desk.needs desk.stages desk.sessions };
+}
+
+impl Desk {
+    /// After a history in which nothing is pending, no session has a transaction; `next`, from 1 to 2^32, is the first id to
+    /// be given, and 2^32 says that none is left.
+    pub fn new(alloc: Global, next: u64) -> Desk
+        ghost history: { History }
+        requires range { (1 ≤ next) × (next ≤ 2 ^ 32) }
+        requires settled { (txn : ℕ) → pending_of history txn ≡ [] }
+        ensures { result.sessions ≡ record { history = history; seats = replicate MAX_SESSIONS empty_seat; next = next } }
+    {
+        Desk {
+            txns: Txns::new(alloc, next),
+            needs: Needs::new(alloc),
+            stages: [
+                Stage::Idle,
+                Stage::Idle,
+                Stage::Idle,
+                Stage::Idle,
+                Stage::Idle,
+                Stage::Idle,
+                Stage::Idle,
+                Stage::Idle,
+                Stage::Idle,
+                Stage::Idle,
+                Stage::Idle,
+                Stage::Idle,
+                Stage::Idle,
+                Stage::Idle,
+                Stage::Idle,
+                Stage::Idle,
+            ],
+            sessions: Noted::of(&next),
+        }
+    }
+
+    /// The id that the next transaction has, from 1; 2^32 says that none is left.
+    pub fn next(&self) -> u64
+        ensures value { result ≡ self.now.sessions.next }
+        ensures range { (1 ≤ result) × (result ≤ 2 ^ 32) }
+    {
+        self.txns.next()
+    }
+
+    /// The session's transaction, if it has one.
+    pub fn txn(&self, k: u8) -> Option<TxnId>
+        requires { k < MAX_SESSIONS }
+        ensures { number_of result ≡ (seat_at self.now.sessions.seats k).txn }
+    {
+        self.txns.of(k + 1)
+    }
+
+    /// The session's stage.
+    pub fn stage(&self, k: u8) -> &Stage
+        requires { k < MAX_SESSIONS }
+        ensures { stage_of result.now ≡ (seat_at self.now.sessions.seats k).stage }
+    {
+        &self.stages[k as usize]
+    }
+
+    /// The LSN of the last pending change of the session's transaction, 0 for none.
+    pub fn undo(&self, k: u8) -> Lsn
+        requires known { k < MAX_SESSIONS }
+        requires some { (seat_at self.now.sessions.seats k).txn ≡ 0 → ⊥ }
+        ensures { result.0 ≡ last_of (pending_of self.now.sessions.history (seat_at self.now.sessions.seats k).txn) }
+    {
+        self.txns.undo(k + 1)
+    }
+
+    /// What all transactions owe the log, in bytes.
+    pub fn owed(&self) -> u64
+        ensures { result ≡ owed_in self.now.sessions }
+    {
+        self.txns.owed()
+    }
+
+    /// The bytes that a transaction's undo needs on a page.
+    pub fn need(&self, page: u32, txn: TxnId) -> u16
+        ensures { result ≡ need_of self.now.sessions.history txn.0 page }
+    {
+        self.needs.need(page, txn)
+    }
+
+    /// The bytes that the undo of all other transactions needs there.
+    pub fn others(&self, page: u32, txn: TxnId) -> u32
+        ensures { result ≡ others_need self.now.sessions.history txn.0 page }
+    {
+        self.needs.others(page, txn)
+    }
+
+    /// The session goes to a stage, which is past its commit where the one before it is. The answer is the stage before.
+    pub fn stand(&mut self, k: u8, stage: Stage) -> Stage
+        requires known { k < MAX_SESSIONS }
+        requires over { is_over (stage_of stage) ≡ is_over (seat_at self.old.sessions.seats k).stage }
+        ensures before { stage_of result ≡ (seat_at self.old.sessions.seats k).stage }
+        ensures sessions { self.new.sessions ≡ goes_to self.old.sessions k (stage_of stage) }
+        ensures entries { self.new.entries ≡ self.old.entries }
+    {
+        self.sessions = goes(&self.sessions, k, &stage);
+        place(&mut self.stages, k, stage)
+    }
+}
