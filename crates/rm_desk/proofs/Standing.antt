@@ -1,28 +1,30 @@
 -- The tables stand for the sessions after a move of one of them.
-use Rattle.std.proofs.Common.{◌≡◌, ℕ, ◌+◌, ◌<◌, ◌≤◌, ◌⊎◌, inl, inr, Bool, true, false, if◌then◌else◌, ◌==◌, List, [], ◌∷◌, length, slice_index_or, slice_set, Option, Some, None, IsSome, IfSome, refl, sym, ap, subst, ◌∙◌, arith}
+use Rattle.std.proofs.Common.{◌≡◌, ℕ, ◌+◌, ◌<◌, ◌≤◌, ◌⊎◌, ◌↔◌, option_map, inl, inr, Bool, true, false, if◌then◌else◌, ◌==◌, List, [], ◌∷◌, length, slice_index_or, slice_set, Option, Some, None, IsSome, IfSome, refl, sym, ap, subst, ◌∙◌, arith}
 use Rattle.std.proofs.lemmas.Bool.{cases_eq, cases_lt, ne_eqb, false≢true}
 use Rattle.std.proofs.lemmas.List.{length-set, get_or-set_same, get_or-set_other, get_or_past}
 use Rattle.rm_types.specs.declared.numbers.Lsn.{Lsn}
+use Rattle.rm_types.specs.declared.numbers.TxnId.{TxnId}
 use Rattle.rm_types.specs.declared.numbers.TheConstants.{MAX_SESSIONS}
 use Rattle.rm_model.specs.Sums.{sum_below}
 use Rattle.rm_model.proofs.Sums.{sum_below-one, sum_below-same}
-use Rattle.rm_history.specs.Acts.{Change, History, changes, undoes, enters, commits, ends, marks}
+use Rattle.rm_history.specs.Acts.{Change, Finish, History, changes, undoes, enters, commits, ends, marks}
 use Rattle.rm_history.specs.Needs.{need_of, need_for, on_page}
 use Rattle.rm_history.specs.Room.{others_need}
 use Rattle.rm_history.specs.Transactions.{greatest_txn}
-use Rattle.rm_history.proofs.PendingSteps.{pending-change_other, pending-undo_other, pending-commit_other, pending-end_other}
+use Rattle.rm_history.proofs.PendingSteps.{pending-change_other, pending-undo_other, pending-commit, pending-commit_other, pending-end, pending-end_other}
 use Rattle.rm_history.specs.Pending.{pending_of, last_of}
 use Rattle.rm_core.specs.Effects.{staged}
 use Rattle.rm_core.specs.Room.{TXN_BYTES, bytes_for, owes_at, owed_by}
 use Rattle.rm_core.specs.State as state
 use Rattle.rm_core.specs.State.{Seat, seat_at, empty_seat, forces, finishes}
-use Rattle.rm_need.specs.Needs.{Reserved, need_in, with_need}
+use Rattle.rm_need.specs.Needs.{Reserved, need_in, HasEntry, with_need}
 use Rattle.rm_txns.specs.declared.transaction.Txn.{Txn}
-use Rattle.rm_txns.specs.Tables.{Table, txn_of, owed_of, owed_by as total_of, ChangesOnly, HasId}
+use Rattle.rm_txns.specs.Tables.{Table, txn_of, owed_of, owed_by as total_of, ChangesOnly, HasId, HaveOwnIds}
+use Rattle.rm_txns.specs.Transactions.{begun as begun_txn, after_commit}
 use Rattle.rm_desk.specs.declared.stages.Stage.{Stage}
-use Rattle.rm_desk.specs.declared.stages.Stage.TheVariants.{Idle}
+use Rattle.rm_desk.specs.declared.stages.Stage.TheVariants.{Idle, Forces}
 use Rattle.rm_desk.specs.Stages.{stage_of}
-use Rattle.rm_desk.specs.Desks.{Sessions, is_over, seat_from, stage_at, goes, owed_in, IsAccounted, Accounts, Stands}
+use Rattle.rm_desk.specs.Desks.{Sessions, is_over, seat_from, stage_at, goes, seated, begun, committed, ended, owed_in, IsOn, IsAccounted, Accounts, Stands}
 
 owes_is : (stage : state.Stage) (bytes : ℕ) → owes_at stage bytes ≡ (if is_over stage then 0 else TXN_BYTES + bytes)
 owes_is forces bytes = refl
@@ -52,6 +54,7 @@ pub record Moved (table after : Table) (needs left : Reserved) (stages : List St
   pub others : (j id : ℕ) → (j ≡ k → ⊥) → HasId (txn_of table (j + 1)) id → pending_of history id ≡ pending_of s.history id
   pub accounted : Accounts history (stage_of stage) txn
   pub needed : (page id : ℕ) → need_in left page id ≡ need_of history id page
+  pub there : (page id : ℕ) → IsOn (pending_of history id) page → HasEntry left page id
 
 pub moved : (table after : Table) (needs left : Reserved) (stages : List Stage) (s : Sessions) (k : ℕ) (txn : Option Txn) (stage : Stage) (history : History) (next : ℕ)
     → Moved table after needs left stages s k txn stage history next
@@ -65,6 +68,7 @@ moved table after needs left stages s k txn stage history next m = record {
   accounted = λ j inside. accounted j inside (cases_eq j k);
   owes = owes;
   needed = m.needed;
+  there = m.there;
 }
   where
     seat : Seat
@@ -130,27 +134,31 @@ accounts_at : (history : History) (before after : state.Stage) (txn : Option Txn
 accounts_at history before after None over is = is
 accounts_at history before after (Some txn) over is = record { some = is.some; undo = is.undo; owed = rw over is.owed; over = rw over is.over }
 
-pub stays : (table : Table) (needs : Reserved) (stages : List Stage) (s : Sessions) → Stands table needs stages s → (k : ℕ) → k < MAX_SESSIONS → (stage : Stage)
-    → is_over (stage_of stage) ≡ is_over (seat_at s.seats k).stage → Stands table needs (slice_set stages k stage) (goes s k (stage_of stage))
-stays table needs stages s stands k among stage over =
+seat_stage : (txn : Option Txn) (at : state.Stage) → (seat_from txn at).stage ≡ at
+seat_stage None at = refl
+seat_stage (Some txn) at = refl
+
+-- and maybe a record that changes nothing of what is pending
+pub stays_keep : (table : Table) (needs : Reserved) (stages : List Stage) (s : Sessions) → Stands table needs stages s → (k : ℕ) → k < MAX_SESSIONS → (stage : Stage)
+    → is_over (stage_of stage) ≡ is_over (seat_at s.seats k).stage → (history : History) → ((id : ℕ) → pending_of history id ≡ pending_of s.history id)
+    → Stands table needs (slice_set stages k stage) (record (goes s k (stage_of stage)) { history = history })
+stays_keep table needs stages s stands k among stage over history same =
     let txn = txn_of table (k + 1) in
     let before = stage_at stages k in
     let seat : staged (seat_at s.seats k) (stage_of stage) ≡ seat_from txn (stage_of stage) =
     ap (λ (at : Seat). staged at (stage_of stage)) (stands.seated k among) ∙ staged_is txn before (stage_of stage) in
     let stage_is : (seat_at s.seats k).stage ≡ before = ap (λ (at : Seat). at.stage) (stands.seated k among) ∙ seat_stage txn before in
-    rw seat (moved table table needs needs stages s k txn stage s.history s.next (record {
+    let at = accounts_at s.history before (stage_of stage) txn (over ∙ ap is_over stage_is) (stands.accounted k among) in
+    rw seat (moved table table needs needs stages s k txn stage history s.next (record {
       stands = stands;
       among = among;
       only = record { here = refl; others = λ other apart. refl; owed = refl; next = stands.next };
       more = omega (arith, stands.next);
-      others = λ j id apart has. refl;
-      accounted = accounts_at s.history before (stage_of stage) txn (over ∙ ap is_over stage_is) (stands.accounted k among);
-      needed = stands.needed;
+      others = λ j id apart has. same id;
+      accounted = accounts_same s.history history (stage_of stage) txn (λ id has. same id) at;
+      needed = λ page id. stands.needed page id ∙ sym (ap (λ (l : List Change). need_for (on_page page l)) (same id));
+      there = λ page id on. stands.there page id (subst (λ (l : List Change). IsOn l page) (same id) on);
     }))
-  where
-    seat_stage : (txn : Option Txn) (at : state.Stage) → (seat_from txn at).stage ≡ at
-    seat_stage None at = refl
-    seat_stage (Some txn) at = refl
 
 -- ---- what is read off
 
@@ -189,3 +197,122 @@ others_is table needs stages s stands page txn sum is =
     is (greatest_txn s.history + 1) (λ other past. stands.needed page other ∙ ap (λ (l : List Change). need_for (on_page page l)) (pending_past s.history other (omega arith)))
     ∙ sum_below-same (λ other. if other == txn then 0 else need_of s.history other page) (with_need needs page txn 0) (greatest_txn s.history + 1)
     (λ other below. ap (λ n. if other == txn then 0 else n) (stands.needed page other))
+
+-- ---- a transaction begins, and one goes
+
+only_now : (table after : Table) (n next : ℕ) (txn : Option Txn) → table.next ≡ next → ChangesOnly table after n txn → ChangesOnly (record table { next = next }) after n txn
+only_now table after n next txn is only = record { here = only.here; others = only.others; owed = only.owed; next = only.next ∙ is }
+
+pub begins_keep : (table after : Table) (needs : Reserved) (stages : List Stage) (s : Sessions) → Stands table needs stages s → (k : ℕ) → k < MAX_SESSIONS → (id : TxnId)
+    → id.0 ≡ table.next → pending_of s.history s.next ≡ [] → ChangesOnly (record table { next = table.next + 1 }) after (k + 1) (Some (begun_txn id))
+    → Stands after needs (slice_set stages k Idle) (begun s k)
+begins_keep table after needs stages s stands k among id is fresh only =
+    let id_is : id.0 ≡ s.next = is ∙ stands.next in
+    let m = moved table after needs needs stages s k (Some (begun_txn id)) Idle s.history (table.next + 1) (record {
+      stands = stands;
+      among = among;
+      only = only;
+      more = omega arith;
+      others = λ j other apart has. refl;
+      accounted = record { some = omega (arith, is, stands.first); undo = rw (id_is, fresh) refl; owed = rw (id_is, fresh) refl; over = refl };
+      needed = stands.needed;
+      there = stands.there;
+    }) in
+    rw (id_is, stands.next) at m
+
+pub leaves_keep : (table after : Table) (needs : Reserved) (stages : List Stage) (s : Sessions) → Stands table needs stages s → (k : ℕ) → k < MAX_SESSIONS
+    → ChangesOnly table after (k + 1) None → Stands after needs (slice_set stages k Idle) (seated s k empty_seat)
+leaves_keep table after needs stages s stands k among only = moved table after needs needs stages s k None Idle s.history s.next (record {
+  stands = stands;
+  among = among;
+  only = only_now table after (k + 1) s.next None stands.next only;
+  more = omega (arith, stands.next);
+  others = λ j id apart has. refl;
+  accounted = tt;
+  needed = stands.needed;
+  there = stands.there;
+})
+
+-- ---- a transaction is over: its commit or end record is logged
+
+-- the id is that of the session's transaction, and of no other's
+pub record IsIdOf (table : Table) (k id : ℕ) : Type 0 where
+  pub has : HasId (txn_of table (k + 1)) id
+  pub ids : HaveOwnIds table
+
+pub is_id_of : (table : Table) (k : ℕ) (id : TxnId) → IsSome (txn_of table (k + 1)) → IfSome (txn_of table (k + 1)) (λ txn. id ≡ txn.id) → HaveOwnIds table → IsIdOf table k id.0
+is_id_of table k id some is ids = record { has = by (txn_of table (k + 1)) some is; ids = ids }
+  where
+    by : (txn : Option Txn) → IsSome txn → IfSome txn (λ txn. id ≡ txn.id) → HasId txn id.0
+    by None some is = absurd (false≢true some)
+    by (Some txn) some is = ap (λ (id : TxnId). id.0) (sym is)
+
+apart_from : (table : Table) (k id : ℕ) → IsIdOf table k id → (j other : ℕ) → (j ≡ k → ⊥) → HasId (txn_of table (j + 1)) other → id ≡ other → ⊥
+apart_from table k id own j other apart has same =
+    let at : HasId (txn_of table (k + 1)) other = subst (HasId (txn_of table (k + 1))) same own.has in
+    apart (let is = own.ids.apart (j + 1) (k + 1) other has at in omega (arith, is))
+
+-- the needs without its own
+pub record Released (needs left : Reserved) (id : ℕ) : Type 0 where
+  pub gone : (page : ℕ) → need_in left page id ≡ 0
+  pub other_needs : (page other : ℕ) → (other ≡ id → ⊥) → need_in left page other ≡ need_in needs page other
+  pub other_entries : (page other : ℕ) → (other ≡ id → ⊥) → HasEntry left page other ↔ HasEntry needs page other
+
+closed : (table after : Table) (needs left : Reserved) (stages : List Stage) (s : Sessions) → Stands table needs stages s → (k : ℕ) → k < MAX_SESSIONS → (id : ℕ) → IsIdOf table k id
+    → (history : History) → pending_of history id ≡ [] → ((other : ℕ) → (id ≡ other → ⊥) → pending_of history other ≡ pending_of s.history other) → Released needs left id → (txn : Option Txn) (stage : Stage) → ChangesOnly table after (k + 1) txn → Accounts history (stage_of stage) txn
+    → Stands after left (slice_set stages k stage) (record { history = history; seats = slice_set s.seats k (seat_from txn (stage_of stage)); next = s.next })
+closed table after needs left stages s stands k among id own history none others c txn stage only accounted = moved table after needs left stages s k txn stage history s.next (record {
+  stands = stands;
+  among = among;
+  only = only_now table after (k + 1) s.next txn stands.next only;
+  more = omega (arith, stands.next);
+  others = λ j other apart has. others other (apart_from table k id own j other apart has);
+  accounted = accounted;
+  needed = λ page other. elim (cases_eq other id) [
+    | inl same ↦ rw same (c.gone page ∙ sym (ap (λ (l : List Change). need_for (on_page page l)) none))
+    | inr differs ↦ c.other_needs page other differs ∙ stands.needed page other ∙ sym (ap (λ (l : List Change). need_for (on_page page l)) (others other (λ is. differs (sym is))))
+  ];
+  there = λ page other on. elim (cases_eq other id) [
+    | inl same ↦ absurd (subst (λ (l : List Change). IsOn l page) (ap (pending_of history) same ∙ none) on)
+    | inr differs ↦ (c.other_entries page other differs).1 (stands.there page other (subst (λ (l : List Change). IsOn l page) (others other (λ is. differs (sym is))) on))
+  ];
+})
+
+seat_id : (table : Table) (needs : Reserved) (stages : List Stage) (s : Sessions) → Stands table needs stages s → (k : ℕ) → k < MAX_SESSIONS → (id : ℕ) → IsIdOf table k id
+    → (seat_at s.seats k).txn ≡ id
+seat_id table needs stages s stands k among id own = ap (λ (at : Seat). at.txn) (stands.seated k among) ∙ by (txn_of table (k + 1)) own.has
+  where
+    by : (txn : Option Txn) → HasId txn id → (seat_from txn (stage_at stages k)).txn ≡ id
+    by None has = absurd has
+    by (Some txn) has = has
+
+pub ends_keep : (table after : Table) (needs left : Reserved) (stages : List Stage) (s : Sessions) → Stands table needs stages s → (k : ℕ) → k < MAX_SESSIONS → (id lsn : ℕ) → IsIdOf table k id
+    → Released needs left id → ChangesOnly table after (k + 1) None
+    → Stands after left (slice_set stages k Idle) (ended s k lsn)
+ends_keep table after needs left stages s stands k among id lsn own c only =
+    rw (seat_id table needs stages s stands k among id own)
+    (closed table after needs left stages s stands k among id own (ends f ∷ s.history) (pending-end f s.history) (pending-end_other f s.history) c None Idle only tt)
+  where
+    f : Finish
+    f = record { lsn = lsn; txn = id }
+
+pub commits_keep : (table after : Table) (needs left : Reserved) (stages : List Stage) (s : Sessions) → Stands table needs stages s → (k : ℕ) → k < MAX_SESSIONS → (id lsn : ℕ) → IsIdOf table k id
+    → Released needs left id → ChangesOnly table after (k + 1) (option_map after_commit (txn_of table (k + 1)))
+    → Stands after left (slice_set stages k Forces) (committed s k lsn)
+commits_keep table after needs left stages s stands k among id lsn own c only =
+    let at = by (txn_of table (k + 1)) own.has (stands.accounted k among) in
+    let seat : staged (seat_at s.seats k) forces ≡ seat_from (option_map after_commit (txn_of table (k + 1))) forces =
+    ap (λ (at : Seat). staged at forces) (stands.seated k among) ∙ seat_is (txn_of table (k + 1)) in
+    rw (seat, seat_id table needs stages s stands k among id own)
+    (closed table after needs left stages s stands k among id own (commits f ∷ s.history) (pending-commit f s.history) (pending-commit_other f s.history) c (option_map after_commit (txn_of table (k + 1))) Forces only at)
+  where
+    f : Finish
+    f = record { lsn = lsn; txn = id }
+
+    seat_is : (txn : Option Txn) → staged (seat_from txn (stage_at stages k)) forces ≡ seat_from (option_map after_commit txn) forces
+    seat_is None = refl
+    seat_is (Some txn) = refl
+
+    by : (txn : Option Txn) → HasId txn id → Accounts s.history (stage_at stages k) txn → Accounts (commits f ∷ s.history) forces (option_map after_commit txn)
+    by None has is = tt
+    by (Some txn) has is = record { some = is.some; undo = sym (ap last_of (ap (pending_of (commits f ∷ s.history)) has ∙ pending-commit f s.history)); owed = refl; over = refl }

@@ -1,6 +1,6 @@
 -- The sessions' part of the machine, and the tables that stand for it.
-use Rattle.std.specs.Prelude.{◌≡◌, ℕ, ◌+◌, ◌<◌, ◌≤◌, if◌then◌else◌, Bool, true, false, List, [], map, length, slice_index_or, slice_set, Option, Some, None}
-use Rattle.rm_history.specs.Acts.{History}
+use Rattle.std.specs.Prelude.{◌≡◌, ℕ, ◌+◌, ◌<◌, ◌≤◌, if◌then◌else◌, Bool, true, false, ◌⊎◌, List, [], ◌∷◌, map, length, slice_index_or, slice_set, Option, Some, None}
+use Rattle.rm_history.specs.Acts.{Act, Change, History, enters, commits, ends}
 use Rattle.rm_history.specs.Needs.{need_of}
 use Rattle.rm_history.specs.Pending.{pending_of, last_of}
 use Rattle.rm_types.specs.declared.numbers.TheConstants.{MAX_SESSIONS}
@@ -9,8 +9,8 @@ use Rattle.rm_model.specs.Sums.{sum_below}
 use Rattle.rm_core.specs.Room.{TXN_BYTES, bytes_for, owed_by}
 use Rattle.rm_core.specs.Effects.{staged}
 use Rattle.rm_core.specs.State as state
-use Rattle.rm_core.specs.State.{Seat, State, Grant, forces, finishes, seat_at}
-use Rattle.rm_need.specs.Needs.{Reserved, need_in}
+use Rattle.rm_core.specs.State.{Seat, State, Grant, idle, forces, finishes, seat_at, empty_seat}
+use Rattle.rm_need.specs.Needs.{Reserved, need_in, HasEntry}
 use Rattle.rm_txns.specs.declared.savepoints.Savepoint.{Savepoint}
 use Rattle.rm_txns.specs.declared.transaction.Txn.{Txn}
 use Rattle.rm_txns.specs.Tables.{Table, txn_of, owed_by as total_of}
@@ -35,6 +35,23 @@ seated s k seat = record s { seats = slice_set s.seats k seat }
 
 abbrev pub goes : Sessions → ℕ → state.Stage → Sessions
 goes s k stage = seated s k (staged (seat_at s.seats k) stage)
+
+-- after a session begins a transaction, with the next id
+abbrev pub begun : Sessions → ℕ → Sessions
+begun s k = record (seated s k (record { txn = s.next; saves = []; stage = idle })) { next = s.next + 1 }
+
+-- after a record is logged: a commit, the end of a rollback, a page's category
+abbrev pub logged : Sessions → Act → Sessions
+logged s act = record s { history = act ∷ s.history }
+
+abbrev pub committed : Sessions → ℕ → ℕ → Sessions
+committed s k lsn = goes (logged s (commits (record { lsn = lsn; txn = (seat_at s.seats k).txn }))) k forces
+
+abbrev pub ended : Sessions → ℕ → ℕ → Sessions
+ended s k lsn = seated (logged s (ends (record { lsn = lsn; txn = (seat_at s.seats k).txn }))) k empty_seat
+
+abbrev pub entered : Sessions → ℕ → ℕ → ℕ → ℕ → state.Stage → Sessions
+entered s k lsn page category stage = goes (logged s (enters (record { lsn = lsn; txn = (seat_at s.seats k).txn; page = page; category = category }))) k stage
 
 -- the state, with these locks
 abbrev pub state_of : Sessions → List Grant → State
@@ -77,6 +94,11 @@ abbrev pub Accounts : History → state.Stage → Option Txn → Type 0
 Accounts history stage None = Unit {0}
 Accounts history stage (Some txn) = IsAccounted history stage txn
 
+-- one of the changes is on the page
+abbrev pub IsOn : List Change → ℕ → Type 0
+IsOn [] page = ⊥
+IsOn (newest ∷ before) page = (newest.rid.page ≡ page) ⊎ IsOn before page
+
 -- The tables stand for the sessions.
 pub record Stands (table : Table) (needs : Reserved) (stages : List Stage) (s : Sessions) : Type 0 where
   pub sized : length s.seats ≡ MAX_SESSIONS
@@ -87,3 +109,5 @@ pub record Stands (table : Table) (needs : Reserved) (stages : List Stage) (s : 
   pub accounted : (k : ℕ) → k < MAX_SESSIONS → Accounts s.history (stage_at stages k) (txn_of table (k + 1))
   pub owes : total_of table ≡ owed_in s
   pub needed : (page txn : ℕ) → need_in needs page txn ≡ need_of s.history txn page
+  -- where a change is pending there is room for its transaction's need
+  pub there : (page txn : ℕ) → IsOn (pending_of s.history txn) page → HasEntry needs page txn

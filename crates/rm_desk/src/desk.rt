@@ -1,21 +1,23 @@
 //! The sessions' part of the machine, on tables.
 
-ghost use Rattle.std.specs.Prelude.{◌≡◌, ℕ, ◌≤◌, ◌<◌, ◌+◌, ◌^◌, [], replicate, slice_index_or, slice_set};
+ghost use Rattle.std.specs.Prelude.{◌≡◌, ℕ, ◌≤◌, ◌<◌, ◌+◌, ◌^◌, [], replicate, slice_index_or, slice_set, IsSome, IfSome, IfOk, OnOk, OnErr};
 ghost use Rattle.rm_types.specs.declared.numbers.TheConstants.{MAX_SESSIONS};
 ghost use Rattle.rm_history.specs.Acts.{History};
 ghost use Rattle.rm_history.specs.Pending.{pending_of, last_of};
 ghost use Rattle.rm_history.specs.Needs.{need_of};
 ghost use Rattle.rm_history.specs.Room.{others_need};
 ghost use Rattle.rm_core.specs.State.{seat_at, empty_seat};
+ghost use Rattle.rm_need.specs.Needs.{HasEntry};
+ghost use Rattle.rm_txns.specs.Tables.{txn_of, HaveOwnIds};
 ghost use Rattle.rm_desk.specs.Stages.{stage_of};
-ghost use Rattle.rm_desk.specs.Desks.{is_over, number_of, owed_in, goes as goes_to};
+ghost use Rattle.rm_desk.specs.Desks.{is_over, number_of, owed_in, begun, seated, committed, ended, entered, goes as goes_to};
 
-use crate::sessions::{SessionList, goes};
+use crate::sessions::{SessionList, begins, commits, ends, enters, goes, leaves};
 use crate::stages::Stage;
 use rm_need::Needs;
 use rm_noted::Noted;
-use rm_txns::Txns;
-use rm_types::{Lsn, MAX_SESSIONS, TxnId};
+use rm_txns::{BeginRefused, Txns};
+use rm_types::{Lsn, MAX_SESSIONS, NoMemory, TxnId};
 use std::alloc::Global;
 use std::marker::Model;
 use std::mem;
@@ -49,6 +51,35 @@ impl Model for Desk {
     ghost view = { λ desk. record { sessions = desk.sessions; entries = desk.needs } };
 
     ghost invariant = { λ desk. Stands desk.txns desk.needs desk.stages desk.sessions };
+}
+
+// Puts a stage at a session's place, in place of the one before.
+fn set(stages: &mut [Stage; SESSIONS], k: u8, stage: Stage)
+    requires { k < MAX_SESSIONS }
+    ensures { stages.new ≡ slice_set stages.old k stage }
+{
+    stages[k as usize] = stage;
+}
+
+// A session without an operation.
+fn clear(stages: &mut [Stage; SESSIONS], k: u8)
+    requires { k < MAX_SESSIONS }
+    ensures { stages.new ≡ slice_set stages.old k Stage.Idle }
+{
+    set(stages, k, Stage::Idle);
+}
+
+// The id of the transaction that a session has.
+fn id_of(txns: &Txns, k: u8) -> TxnId
+    requires known { k < MAX_SESSIONS }
+    requires has { IsSome (txn_of txns.now (k + 1)) }
+    ensures value { IfSome (txn_of txns.now (k + 1)) (λ txn. result ≡ txn.id) }
+    ensures ids { HaveOwnIds txns.now }
+{
+    match txns.of(k + 1) {
+        Some(txn) => txn,
+        None => unreachable!(),
+    }
 }
 
 impl Desk {
@@ -149,5 +180,88 @@ impl Desk {
     {
         self.sessions = goes(&self.sessions, k, &stage);
         place(&mut self.stages, k, stage)
+    }
+
+    /// Begins the session's transaction, with the next id.
+    ///
+    /// # Errors
+    ///
+    /// [`BeginRefused::Spent`] exactly where no id is left; it leaves all as it was.
+    pub fn begin(&mut self, k: u8) -> Result<TxnId, BeginRefused>
+        requires known { k < MAX_SESSIONS }
+        requires none { (seat_at self.old.sessions.seats k).txn ≡ 0 }
+        requires fresh { pending_of self.old.sessions.history self.old.sessions.next ≡ [] }
+        ensures given { IfOk result (λ id. (id.0 ≡ self.old.sessions.next) × (id.0 < 2 ^ 32)) }
+        ensures begun { OnOk result (self.new.sessions ≡ begun self.old.sessions k) }
+        ensures entries { self.new.entries ≡ self.old.entries }
+        ensures spent { OnErr result (self.old.sessions.next ≡ 2 ^ 32) }
+        ensures err { OnErr result (self.new ≡ self.old) }
+    {
+        let id = self.txns.begin(k + 1)?;
+        clear(&mut self.stages, k);
+        self.sessions = begins(&self.sessions, k);
+        Ok(id)
+    }
+
+    /// The session has no transaction from now on: it was told that its transaction is committed.
+    pub fn finish(&mut self, k: u8)
+        requires known { k < MAX_SESSIONS }
+        requires some { (seat_at self.old.sessions.seats k).txn ≡ 0 → ⊥ }
+        ensures sessions { self.new.sessions ≡ seated self.old.sessions k empty_seat }
+        ensures entries { self.new.entries ≡ self.old.entries }
+    {
+        self.txns.finish(k + 1);
+        clear(&mut self.stages, k);
+        self.sessions = leaves(&self.sessions, k);
+    }
+
+    /// Makes room for a transaction's need on a page, so that [`Desk::changed`] takes no memory. All stays.
+    ///
+    /// # Errors
+    ///
+    /// [`NoMemory`] leaves the room as it was, too.
+    pub fn ready(&mut self, page: u32, txn: TxnId) -> Result<(), NoMemory>
+        ensures ok { OnOk result (HasEntry self.new.entries page txn.0) }
+        ensures same { self.new.sessions ≡ self.old.sessions }
+        ensures err { OnErr result (self.new ≡ self.old) }
+    {
+        self.needs.ready(page, txn)
+    }
+
+    /// The commit record of the session's transaction is logged.
+    pub fn committed(&mut self, k: u8, lsn: Lsn)
+        requires known { k < MAX_SESSIONS }
+        requires some { (seat_at self.old.sessions.seats k).txn ≡ 0 → ⊥ }
+        ensures { self.new.sessions ≡ committed self.old.sessions k lsn.0 }
+    {
+        let txn = id_of(&self.txns, k);
+        self.txns.commit(k + 1);
+        self.needs.release(txn);
+        set(&mut self.stages, k, Stage::Forces);
+        self.sessions = commits(&self.sessions, k, lsn);
+    }
+
+    /// The end record of the session's transaction is logged: the session has none from now on.
+    pub fn ended(&mut self, k: u8, lsn: Lsn)
+        requires known { k < MAX_SESSIONS }
+        requires some { (seat_at self.old.sessions.seats k).txn ≡ 0 → ⊥ }
+        ensures { self.new.sessions ≡ ended self.old.sessions k lsn.0 }
+    {
+        let txn = id_of(&self.txns, k);
+        self.txns.finish(k + 1);
+        self.needs.release(txn);
+        clear(&mut self.stages, k);
+        self.sessions = ends(&self.sessions, k, lsn);
+    }
+
+    /// The record that enters a page's category is logged.
+    pub fn entered(&mut self, k: u8, lsn: Lsn, page: u32, category: u8, stage: Stage)
+        requires known { k < MAX_SESSIONS }
+        requires over { is_over (stage_of stage) ≡ is_over (seat_at self.old.sessions.seats k).stage }
+        ensures sessions { self.new.sessions ≡ entered self.old.sessions k lsn.0 page category (stage_of stage) }
+        ensures entries { self.new.entries ≡ self.old.entries }
+    {
+        self.sessions = enters(&self.sessions, k, lsn, page, category, &stage);
+        set(&mut self.stages, k, stage);
     }
 }

@@ -2,10 +2,12 @@
 
 ghost use Rattle.std.specs.Prelude.{◌≡◌};
 ghost use Rattle.rm_desk.specs.Stages.{stage_of};
-ghost use Rattle.rm_desk.specs.Desks.{goes as goes_to};
+ghost use Rattle.rm_desk.specs.Desks.{goes as goes_to, begun, seated, committed, ended, entered};
+ghost use Rattle.rm_core.specs.State.{empty_seat};
 
 use crate::stages::Stage;
 use rm_noted::Noted;
+use rm_types::Lsn;
 use std::marker::Model;
 
 // What is noted: the history, the sessions and the next id.
@@ -26,4 +28,51 @@ pub(crate) fn goes(sessions: &Noted<SessionList>, k: u8, stage: &Stage) -> Noted
     ensures { result ≡ goes_to sessions.now k (stage_of stage.now) }
 {
     Noted::of(&(sessions, k, stage))
+}
+
+// A session begins a transaction.
+#[inline(always)]
+pub(crate) fn begins(sessions: &Noted<SessionList>, k: u8) -> Noted<SessionList>
+    ensures { result ≡ begun sessions.now k }
+{
+    Noted::of(&(sessions, k))
+}
+
+// A session has no transaction any more.
+#[inline(always)]
+pub(crate) fn leaves(sessions: &Noted<SessionList>, k: u8) -> Noted<SessionList>
+    ensures { result ≡ seated sessions.now k empty_seat }
+{
+    Noted::of(&(sessions, k))
+}
+
+// A commit record is logged.
+#[inline(always)]
+pub(crate) fn commits(sessions: &Noted<SessionList>, k: u8, lsn: Lsn) -> Noted<SessionList>
+    ensures { result ≡ committed sessions.now k lsn.0 }
+{
+    Noted::of(&(sessions, k, lsn))
+}
+
+// An end record is logged.
+#[inline(always)]
+pub(crate) fn ends(sessions: &Noted<SessionList>, k: u8, lsn: Lsn) -> Noted<SessionList>
+    ensures { result ≡ ended sessions.now k lsn.0 }
+{
+    Noted::of(&(sessions, k, lsn))
+}
+
+// A page's category is logged.
+#[inline(always)]
+pub(crate) fn enters(
+    sessions: &Noted<SessionList>,
+    k: u8,
+    lsn: Lsn,
+    page: u32,
+    category: u8,
+    stage: &Stage,
+) -> Noted<SessionList>
+    ensures { result ≡ entered sessions.now k lsn.0 page category (stage_of stage.now) }
+{
+    Noted::of(&(sessions, k, lsn, page, category, stage))
 }

@@ -1,0 +1,6 @@
+use Rattle.rm_core.specs.State.{empty_seat}
+use Rattle.rm_desk.specs.Desks.{seated}
+use Rattle.rm_desk.proofs.sessions.leaves.Given as goal
+
+abbrev pub ghost-of : goal.ghost-of
+ghost-of a = seated a._from.now.0.now a._from.now.1 empty_seat
