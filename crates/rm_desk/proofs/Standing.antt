@@ -200,7 +200,7 @@ others_is table needs stages s stands page txn sum is =
 
 -- ---- a transaction begins, and one goes
 
-only_now : (table after : Table) (n next : ℕ) (txn : Option Txn) → table.next ≡ next → ChangesOnly table after n txn → ChangesOnly (record table { next = next }) after n txn
+pub only_now : (table after : Table) (n next : ℕ) (txn : Option Txn) → table.next ≡ next → ChangesOnly table after n txn → ChangesOnly (record table { next = next }) after n txn
 only_now table after n next txn is only = record { here = only.here; others = only.others; owed = only.owed; next = only.next ∙ is }
 
 pub begins_keep : (table after : Table) (needs : Reserved) (stages : List Stage) (s : Sessions) → Stands table needs stages s → (k : ℕ) → k < MAX_SESSIONS → (id : TxnId)
@@ -247,7 +247,7 @@ is_id_of table k id some is ids = record { has = by (txn_of table (k + 1)) some 
     by None some is = absurd (false≢true some)
     by (Some txn) some is = ap (λ (id : TxnId). id.0) (sym is)
 
-apart_from : (table : Table) (k id : ℕ) → IsIdOf table k id → (j other : ℕ) → (j ≡ k → ⊥) → HasId (txn_of table (j + 1)) other → id ≡ other → ⊥
+pub apart_from : (table : Table) (k id : ℕ) → IsIdOf table k id → (j other : ℕ) → (j ≡ k → ⊥) → HasId (txn_of table (j + 1)) other → id ≡ other → ⊥
 apart_from table k id own j other apart has same =
     let at : HasId (txn_of table (k + 1)) other = subst (HasId (txn_of table (k + 1))) same own.has in
     apart (let is = own.ids.apart (j + 1) (k + 1) other has at in omega (arith, is))
@@ -278,7 +278,7 @@ closed table after needs left stages s stands k among id own history none others
   ];
 })
 
-seat_id : (table : Table) (needs : Reserved) (stages : List Stage) (s : Sessions) → Stands table needs stages s → (k : ℕ) → k < MAX_SESSIONS → (id : ℕ) → IsIdOf table k id
+pub seat_id : (table : Table) (needs : Reserved) (stages : List Stage) (s : Sessions) → Stands table needs stages s → (k : ℕ) → k < MAX_SESSIONS → (id : ℕ) → IsIdOf table k id
     → (seat_at s.seats k).txn ≡ id
 seat_id table needs stages s stands k among id own = ap (λ (at : Seat). at.txn) (stands.seated k among) ∙ by (txn_of table (k + 1)) own.has
   where

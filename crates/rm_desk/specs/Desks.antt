@@ -1,13 +1,17 @@
 -- The sessions' part of the machine, and the tables that stand for it.
-use Rattle.std.specs.Prelude.{◌≡◌, ℕ, ◌+◌, ◌<◌, ◌≤◌, if◌then◌else◌, Bool, true, false, ◌⊎◌, List, [], ◌∷◌, map, length, slice_index_or, slice_set, Option, Some, None}
-use Rattle.rm_history.specs.Acts.{Act, Change, History, enters, commits, ends}
+use Rattle.std.specs.Prelude.{◌≡◌, ℕ, ◌+◌, ◌<◌, ◌≤◌, if◌then◌else◌, Bool, true, false, ◌⊎◌, List, [], ◌∷◌, map, length, slice_index_or, slice_set, option_copied, Option, Some, None}
+use Rattle.std.specs.Borrow.{Bor}
+use Rattle.rm_history.specs.Acts.{Act, Change, History, changes, enters, commits, ends}
+use Rattle.rm_history.specs.Contents.{slot_of}
 use Rattle.rm_history.specs.Needs.{need_of}
 use Rattle.rm_history.specs.Pending.{pending_of, last_of}
 use Rattle.rm_types.specs.declared.numbers.TheConstants.{MAX_SESSIONS}
+use Rattle.rm_types.specs.declared.numbers.Rid.{Rid}
 use Rattle.rm_types.specs.declared.numbers.TxnId.{TxnId}
+use Rattle.rm_types.specs.declared.slots.Slot.{Slot}
 use Rattle.rm_model.specs.Sums.{sum_below}
 use Rattle.rm_core.specs.Room.{TXN_BYTES, bytes_for, owed_by}
-use Rattle.rm_core.specs.Effects.{staged}
+use Rattle.rm_core.specs.Effects.{staged, change_of}
 use Rattle.rm_core.specs.State as state
 use Rattle.rm_core.specs.State.{Seat, State, Grant, idle, forces, finishes, seat_at, empty_seat}
 use Rattle.rm_need.specs.Needs.{Reserved, need_in, HasEntry}
@@ -52,6 +56,13 @@ ended s k lsn = seated (logged s (ends (record { lsn = lsn; txn = (seat_at s.sea
 
 abbrev pub entered : Sessions → ℕ → ℕ → ℕ → ℕ → state.Stage → Sessions
 entered s k lsn page category stage = goes (logged s (enters (record { lsn = lsn; txn = (seat_at s.seats k).txn; page = page; category = category }))) k stage
+
+-- what a slot with this row holds, or with none; after a change of a slot from one to the other
+abbrev pub held : Option (Bor (List ℕ)) → Slot
+held row = slot_of (option_copied row)
+
+abbrev pub changed : Sessions → ℕ → Rid → Slot → Slot → ℕ → state.Stage → Sessions
+changed s k rid before after lsn stage = goes (logged s (changes (change_of s.history (seat_at s.seats k).txn rid before after lsn))) k stage
 
 -- the state, with these locks
 abbrev pub state_of : Sessions → List Grant → State

@@ -1,23 +1,27 @@
 //! The sessions' part of the machine, on tables.
 
-ghost use Rattle.std.specs.Prelude.{◌≡◌, ℕ, ◌≤◌, ◌<◌, ◌+◌, ◌^◌, [], replicate, slice_index_or, slice_set, IsSome, IfSome, IfOk, OnOk, OnErr};
+ghost use Rattle.std.specs.Prelude.{◌≡◌, ℕ, ◌≤◌, ◌<◌, ◌+◌, ◌^◌, [], replicate, slice_index_or, slice_set, length, false, IsSome, IfSome, IfOk, OnOk, OnErr};
 ghost use Rattle.rm_types.specs.declared.numbers.TheConstants.{MAX_SESSIONS};
 ghost use Rattle.rm_history.specs.Acts.{History};
 ghost use Rattle.rm_history.specs.Pending.{pending_of, last_of};
 ghost use Rattle.rm_history.specs.Needs.{need_of};
 ghost use Rattle.rm_history.specs.Room.{others_need};
 ghost use Rattle.rm_core.specs.State.{seat_at, empty_seat};
+ghost use Rattle.rm_types.specs.declared.rows.TheConstants.{MAX_ROW};
+ghost use Rattle.rm_model.specs.Pages.{row_length};
+ghost use Rattle.rm_history.specs.Rules.{IsInOrder};
+ghost use Rattle.rm_core.specs.Room.{CHANGE_BYTES};
 ghost use Rattle.rm_need.specs.Needs.{HasEntry};
 ghost use Rattle.rm_txns.specs.Tables.{txn_of, HaveOwnIds};
 ghost use Rattle.rm_desk.specs.Stages.{stage_of};
-ghost use Rattle.rm_desk.specs.Desks.{is_over, number_of, owed_in, begun, seated, committed, ended, entered, goes as goes_to};
+ghost use Rattle.rm_desk.specs.Desks.{is_over, number_of, owed_in, begun, seated, committed, ended, entered, changed, held, goes as goes_to};
 
-use crate::sessions::{SessionList, begins, commits, ends, enters, goes, leaves};
+use crate::sessions::{SessionList, begins, changes, commits, ends, enters, goes, hold, leaves};
 use crate::stages::Stage;
 use rm_need::Needs;
 use rm_noted::Noted;
 use rm_txns::{BeginRefused, Txns};
-use rm_types::{Lsn, MAX_SESSIONS, NoMemory, TxnId};
+use rm_types::{Lsn, MAX_SESSIONS, NoMemory, Rid, TxnId};
 use std::alloc::Global;
 use std::marker::Model;
 use std::mem;
@@ -79,6 +83,17 @@ fn id_of(txns: &Txns, k: u8) -> TxnId
     match txns.of(k + 1) {
         Some(txn) => txn,
         None => unreachable!(),
+    }
+}
+
+// The bytes of a row, 0 for none.
+fn len_of(row: Option<&[u8]>) -> u16
+    requires { IfSome row (λ row. length row.now ≤ MAX_ROW) }
+    ensures { result ≡ row_length (held row.entry) }
+{
+    match row {
+        Some(row) => row.len() as u16,
+        None => 0,
     }
 }
 
@@ -262,6 +277,36 @@ impl Desk {
         ensures entries { self.new.entries ≡ self.old.entries }
     {
         self.sessions = enters(&self.sessions, k, lsn, page, category, &stage);
+        set(&mut self.stages, k, stage);
+    }
+
+    /// A change of the session's transaction is logged: the slot held the row `before`, or none, and holds `after`.
+    pub fn changed(
+        &mut self,
+        k: u8,
+        lsn: Lsn,
+        rid: Rid,
+        before: Option<&[u8]>,
+        after: Option<&[u8]>,
+        stage: Stage,
+    )
+        requires known { k < MAX_SESSIONS }
+        requires some { (seat_at self.old.sessions.seats k).txn ≡ 0 → ⊥ }
+        requires open { is_over (seat_at self.old.sessions.seats k).stage ≡ false }
+        requires over { is_over (stage_of stage) ≡ false }
+        requires short { IfSome before (λ row. length row.now ≤ MAX_ROW) }
+        requires short_after { IfSome after (λ row. length row.now ≤ MAX_ROW) }
+        requires order { IsInOrder (changed self.old.sessions k rid (held before) (held after) lsn.0 (stage_of stage)).history }
+        requires ready { HasEntry self.old.entries rid.page (seat_at self.old.sessions.seats k).txn }
+        requires room { owed_in self.old.sessions + (CHANGE_BYTES + row_length (held before)) ≤ 2 ^ 63 }
+        ensures { self.new.sessions ≡ changed self.old.sessions k rid (held before.entry) (held after.entry) lsn.0 (stage_of stage) }
+    {
+        let txn = id_of(&self.txns, k);
+        self.needs
+            .change(rid.page, txn, len_of(before), len_of(after));
+        self.txns.push(k + 1, lsn, len_of(before));
+        let slots = (hold(before), hold(after));
+        self.sessions = changes(&self.sessions, k, lsn, rid, slots, &stage);
         set(&mut self.stages, k, stage);
     }
 }

@@ -2,12 +2,12 @@
 
 ghost use Rattle.std.specs.Prelude.{◌≡◌};
 ghost use Rattle.rm_desk.specs.Stages.{stage_of};
-ghost use Rattle.rm_desk.specs.Desks.{goes as goes_to, begun, seated, committed, ended, entered};
+ghost use Rattle.rm_desk.specs.Desks.{goes as goes_to, begun, seated, committed, ended, entered, changed, held};
 ghost use Rattle.rm_core.specs.State.{empty_seat};
 
 use crate::stages::Stage;
 use rm_noted::Noted;
-use rm_types::Lsn;
+use rm_types::{Lsn, Rid, Slot};
 use std::marker::Model;
 
 // What is noted: the history, the sessions and the next id.
@@ -75,4 +75,27 @@ pub(crate) fn enters(
     ensures { result ≡ entered sessions.now k lsn.0 page category (stage_of stage.now) }
 {
     Noted::of(&(sessions, k, lsn, page, category, stage))
+}
+
+// What a slot with that row holds, or with none.
+#[inline(always)]
+pub(crate) fn hold(row: Option<&[u8]>) -> Noted<Slot>
+    ensures { result ≡ held row.entry }
+{
+    Noted::of(&row)
+}
+
+// A change is logged.
+#[inline(always)]
+pub(crate) fn changes(
+    sessions: &Noted<SessionList>,
+    k: u8,
+    lsn: Lsn,
+    rid: Rid,
+    slots: (Noted<Slot>, Noted<Slot>),
+    stage: &Stage,
+) -> Noted<SessionList>
+    ensures { result ≡ changed sessions.now k rid slots.0 slots.1 lsn.0 (stage_of stage.now) }
+{
+    Noted::of(&(sessions, k, lsn, rid, slots, stage))
 }
