@@ -2,3 +2,4 @@ pub mod Entries
 pub mod Slots
 pub mod Standing
 pub mod Changing
+pub mod Undoing

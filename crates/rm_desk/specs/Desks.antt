@@ -1,14 +1,16 @@
 -- The sessions' part of the machine, and the tables that stand for it.
 use Rattle.std.specs.Prelude.{◌≡◌, ℕ, ◌+◌, ◌<◌, ◌≤◌, if◌then◌else◌, Bool, true, false, ◌⊎◌, List, [], ◌∷◌, map, length, slice_index_or, slice_set, option_copied, Option, Some, None}
 use Rattle.std.specs.Borrow.{Bor}
-use Rattle.rm_history.specs.Acts.{Act, Change, History, changes, enters, commits, ends}
+use Rattle.rm_history.specs.Acts.{Act, Change, History, changes, undoes, enters, commits, ends}
 use Rattle.rm_history.specs.Contents.{slot_of}
 use Rattle.rm_history.specs.Needs.{need_of}
 use Rattle.rm_history.specs.Pending.{pending_of, last_of}
+use Rattle.rm_history.specs.Undoing.{undo_for}
 use Rattle.rm_types.specs.declared.numbers.TheConstants.{MAX_SESSIONS}
 use Rattle.rm_types.specs.declared.numbers.Rid.{Rid}
 use Rattle.rm_types.specs.declared.numbers.TxnId.{TxnId}
 use Rattle.rm_types.specs.declared.slots.Slot.{Slot}
+use Rattle.rm_model.specs.Pages.{row_length}
 use Rattle.rm_model.specs.Sums.{sum_below}
 use Rattle.rm_core.specs.Room.{TXN_BYTES, bytes_for, owed_by}
 use Rattle.rm_core.specs.Effects.{staged, change_of}
@@ -18,6 +20,7 @@ use Rattle.rm_need.specs.Needs.{Reserved, need_in, HasEntry}
 use Rattle.rm_txns.specs.declared.savepoints.Savepoint.{Savepoint}
 use Rattle.rm_txns.specs.declared.transaction.Txn.{Txn}
 use Rattle.rm_txns.specs.Tables.{Table, txn_of, owed_by as total_of}
+use Rattle.rm_desk.specs.declared.changes.LastChange.{LastChange}
 use Rattle.rm_desk.specs.declared.stages.Stage.{Stage}
 use Rattle.rm_desk.specs.declared.stages.Stage.TheVariants.{Idle}
 use Rattle.rm_desk.specs.Stages.{stage_of}
@@ -63,6 +66,18 @@ held row = slot_of (option_copied row)
 
 abbrev pub changed : Sessions → ℕ → Rid → Slot → Slot → ℕ → state.Stage → Sessions
 changed s k rid before after lsn stage = goes (logged s (changes (change_of s.history (seat_at s.seats k).txn rid before after lsn))) k stage
+
+-- the newest of the pending changes is as its record says; after it is undone
+abbrev pub IsLastOf : List Change → LastChange → Type 0
+IsLastOf [] known = ⊥
+IsLastOf (last ∷ rest) known = (last.rid.page ≡ known.page) × (last.need ≡ known.need) × (last.under ≡ known.under.0) × (row_length last.before ≡ known.before)
+
+abbrev pub undoing : ℕ → List Change → History → History
+undoing lsn [] history = history
+undoing lsn (last ∷ rest) history = undoes (undo_for lsn last) ∷ history
+
+abbrev pub undone : Sessions → ℕ → ℕ → state.Stage → Sessions
+undone s k lsn stage = goes (record s { history = undoing lsn (pending_of s.history (seat_at s.seats k).txn) s.history }) k stage
 
 -- the state, with these locks
 abbrev pub state_of : Sessions → List Grant → State

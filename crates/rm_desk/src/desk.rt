@@ -14,9 +14,12 @@ ghost use Rattle.rm_core.specs.Room.{CHANGE_BYTES};
 ghost use Rattle.rm_need.specs.Needs.{HasEntry};
 ghost use Rattle.rm_txns.specs.Tables.{txn_of, HaveOwnIds};
 ghost use Rattle.rm_desk.specs.Stages.{stage_of};
-ghost use Rattle.rm_desk.specs.Desks.{is_over, number_of, owed_in, begun, seated, committed, ended, entered, changed, held, goes as goes_to};
+ghost use Rattle.rm_desk.specs.Desks.{is_over, number_of, owed_in, begun, seated, committed, ended, entered, changed, held, undone, IsLastOf, goes as goes_to};
 
-use crate::sessions::{SessionList, begins, changes, commits, ends, enters, goes, hold, leaves};
+use crate::changes::LastChange;
+use crate::sessions::{
+    SessionList, begins, changes, commits, ends, enters, goes, hold, leaves, undoes,
+};
 use crate::stages::Stage;
 use rm_need::Needs;
 use rm_noted::Noted;
@@ -307,6 +310,23 @@ impl Desk {
         self.txns.push(k + 1, lsn, len_of(before));
         let slots = (hold(before), hold(after));
         self.sessions = changes(&self.sessions, k, lsn, rid, slots, &stage);
+        set(&mut self.stages, k, stage);
+    }
+
+    /// The compensation of the transaction's last pending change is logged.
+    pub fn undone(&mut self, k: u8, lsn: Lsn, last: LastChange, stage: Stage)
+        requires known { k < MAX_SESSIONS }
+        requires some { (seat_at self.old.sessions.seats k).txn ≡ 0 → ⊥ }
+        requires open { is_over (seat_at self.old.sessions.seats k).stage ≡ false }
+        requires over { is_over (stage_of stage) ≡ false }
+        requires last { IsLastOf (pending_of self.old.sessions.history (seat_at self.old.sessions.seats k).txn) last }
+        requires order { IsInOrder (undone self.old.sessions k lsn.0 (stage_of stage)).history }
+        ensures sessions { self.new.sessions ≡ undone self.old.sessions k lsn.0 (stage_of stage) }
+    {
+        let txn = id_of(&self.txns, k);
+        self.needs.restore(last.page, txn, last.need);
+        self.txns.pop(k + 1, last.under, last.before);
+        self.sessions = undoes(&self.sessions, k, lsn, &stage);
         set(&mut self.stages, k, stage);
     }
 }

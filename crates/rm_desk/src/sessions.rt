@@ -2,7 +2,7 @@
 
 ghost use Rattle.std.specs.Prelude.{◌≡◌};
 ghost use Rattle.rm_desk.specs.Stages.{stage_of};
-ghost use Rattle.rm_desk.specs.Desks.{goes as goes_to, begun, seated, committed, ended, entered, changed, held};
+ghost use Rattle.rm_desk.specs.Desks.{goes as goes_to, begun, seated, committed, ended, entered, changed, held, undone};
 ghost use Rattle.rm_core.specs.State.{empty_seat};
 
 use crate::stages::Stage;
@@ -98,4 +98,17 @@ pub(crate) fn changes(
     ensures { result ≡ changed sessions.now k rid slots.0 slots.1 lsn.0 (stage_of stage.now) }
 {
     Noted::of(&(sessions, k, lsn, rid, slots, stage))
+}
+
+// A transaction's last pending change is undone.
+#[inline(always)]
+pub(crate) fn undoes(
+    sessions: &Noted<SessionList>,
+    k: u8,
+    lsn: Lsn,
+    stage: &Stage,
+) -> Noted<SessionList>
+    ensures { result ≡ undone sessions.now k lsn.0 (stage_of stage.now) }
+{
+    Noted::of(&(sessions, k, lsn, stage))
 }
