@@ -3,3 +3,4 @@ pub mod Slots
 pub mod Standing
 pub mod Changing
 pub mod Undoing
+pub mod Saving

@@ -198,7 +198,7 @@ others_is table needs stages s stands page txn sum is =
     ∙ sum_below-same (λ other. if other == txn then 0 else need_of s.history other page) (with_need needs page txn 0) (greatest_txn s.history + 1)
     (λ other below. ap (λ n. if other == txn then 0 else n) (stands.needed page other))
 
--- ---- a transaction begins, and one goes
+-- ---- a transaction begins; another one, or none, takes its place
 
 pub only_now : (table after : Table) (n next : ℕ) (txn : Option Txn) → table.next ≡ next → ChangesOnly table after n txn → ChangesOnly (record table { next = next }) after n txn
 only_now table after n next txn is only = record { here = only.here; others = only.others; owed = only.owed; next = only.next ∙ is }
@@ -220,15 +220,15 @@ begins_keep table after needs stages s stands k among id is fresh only =
     }) in
     rw (id_is, stands.next) at m
 
-pub leaves_keep : (table after : Table) (needs : Reserved) (stages : List Stage) (s : Sessions) → Stands table needs stages s → (k : ℕ) → k < MAX_SESSIONS
-    → ChangesOnly table after (k + 1) None → Stands after needs (slice_set stages k Idle) (seated s k empty_seat)
-leaves_keep table after needs stages s stands k among only = moved table after needs needs stages s k None Idle s.history s.next (record {
+pub sits_keep : (table after : Table) (needs : Reserved) (stages : List Stage) (s : Sessions) → Stands table needs stages s → (k : ℕ) → k < MAX_SESSIONS → (txn : Option Txn) (stage : Stage)
+    → ChangesOnly table after (k + 1) txn → Accounts s.history (stage_of stage) txn → Stands after needs (slice_set stages k stage) (seated s k (seat_from txn (stage_of stage)))
+sits_keep table after needs stages s stands k among txn stage only accounted = moved table after needs needs stages s k txn stage s.history s.next (record {
   stands = stands;
   among = among;
-  only = only_now table after (k + 1) s.next None stands.next only;
+  only = only_now table after (k + 1) s.next txn stands.next only;
   more = omega (arith, stands.next);
   others = λ j id apart has. refl;
-  accounted = tt;
+  accounted = accounted;
   needed = stands.needed;
   there = stands.there;
 })

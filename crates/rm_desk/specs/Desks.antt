@@ -7,6 +7,7 @@ use Rattle.rm_history.specs.Needs.{need_of}
 use Rattle.rm_history.specs.Pending.{pending_of, last_of}
 use Rattle.rm_history.specs.Undoing.{undo_for}
 use Rattle.rm_types.specs.declared.numbers.TheConstants.{MAX_SESSIONS}
+use Rattle.rm_types.specs.declared.numbers.Lsn.{Lsn}
 use Rattle.rm_types.specs.declared.numbers.Rid.{Rid}
 use Rattle.rm_types.specs.declared.numbers.TxnId.{TxnId}
 use Rattle.rm_types.specs.declared.slots.Slot.{Slot}
@@ -15,7 +16,7 @@ use Rattle.rm_model.specs.Sums.{sum_below}
 use Rattle.rm_core.specs.Room.{TXN_BYTES, bytes_for, owed_by}
 use Rattle.rm_core.specs.Effects.{staged, change_of}
 use Rattle.rm_core.specs.State as state
-use Rattle.rm_core.specs.State.{Seat, State, Grant, idle, forces, finishes, seat_at, empty_seat}
+use Rattle.rm_core.specs.State.{Seat, State, Grant, HasNumber, dropped, upto, value_at, idle, forces, finishes, rolls, returns, seat_at, empty_seat}
 use Rattle.rm_need.specs.Needs.{Reserved, need_in, HasEntry}
 use Rattle.rm_txns.specs.declared.savepoints.Savepoint.{Savepoint}
 use Rattle.rm_txns.specs.declared.transaction.Txn.{Txn}
@@ -78,6 +79,20 @@ undoing lsn (last ∷ rest) history = undoes (undo_for lsn last) ∷ history
 
 abbrev pub undone : Sessions → ℕ → ℕ → state.Stage → Sessions
 undone s k lsn stage = goes (record s { history = undoing lsn (pending_of s.history (seat_at s.seats k).txn) s.history }) k stage
+
+-- a savepoint of that number is there, and stands at this LSN; or there is none
+abbrev pub IsSavepoint : List (state.Savepoint ℕ) → ℕ → Option Lsn → Type 0
+IsSavepoint saves number None = HasNumber saves number → ⊥
+IsSavepoint saves number (Some at) = HasNumber saves number × (at.0 ≡ value_at 0 saves number)
+
+-- after a savepoint is set; after the rollback to one begins
+abbrev pub saved : Sessions → ℕ → ℕ → Sessions
+saved s k number =
+    let seat = seat_at s.seats k in
+    seated s k (record seat { stage = idle; saves = record { number = number; value = last_of (pending_of s.history seat.txn) } ∷ dropped seat.saves number })
+
+abbrev pub rewound : Sessions → ℕ → ℕ → ℕ → Sessions
+rewound s k number at = let seat = seat_at s.seats k in seated s k (record seat { stage = rolls (returns number at); saves = upto seat.saves number })
 
 -- the state, with these locks
 abbrev pub state_of : Sessions → List Grant → State

@@ -14,13 +14,13 @@ ghost use Rattle.rm_core.specs.Room.{CHANGE_BYTES};
 ghost use Rattle.rm_need.specs.Needs.{HasEntry};
 ghost use Rattle.rm_txns.specs.Tables.{txn_of, HaveOwnIds};
 ghost use Rattle.rm_desk.specs.Stages.{stage_of};
-ghost use Rattle.rm_desk.specs.Desks.{is_over, number_of, owed_in, begun, seated, committed, ended, entered, changed, held, undone, IsLastOf, goes as goes_to};
+ghost use Rattle.rm_desk.specs.Desks.{is_over, number_of, owed_in, begun, seated, committed, ended, entered, changed, held, undone, IsLastOf, IsSavepoint, saved, rewound, goes as goes_to};
 
 use crate::changes::LastChange;
 use crate::sessions::{
-    SessionList, begins, changes, commits, ends, enters, goes, hold, leaves, undoes,
+    SessionList, begins, changes, commits, ends, enters, goes, hold, leaves, rewinds, saves, undoes,
 };
-use crate::stages::Stage;
+use crate::stages::{Aim, Stage};
 use rm_need::Needs;
 use rm_noted::Noted;
 use rm_txns::{BeginRefused, Txns};
@@ -328,5 +328,51 @@ impl Desk {
         self.txns.pop(k + 1, last.under, last.before);
         self.sessions = undoes(&self.sessions, k, lsn, &stage);
         set(&mut self.stages, k, stage);
+    }
+
+    /// The LSN of the transaction's last pending change when the savepoint of that number was set, if there is one.
+    pub fn savepoint(&self, k: u8, number: u8) -> Option<Lsn>
+        requires known { k < MAX_SESSIONS }
+        requires some { (seat_at self.now.sessions.seats k).txn ≡ 0 → ⊥ }
+        ensures { IsSavepoint (seat_at self.now.sessions.seats k).saves number result }
+    {
+        self.txns.target(k + 1, number)
+    }
+
+    /// Sets a savepoint at the transaction's last pending change; an older one of that number is dropped.
+    ///
+    /// # Errors
+    ///
+    /// [`NoMemory`] leaves all as it was.
+    pub fn save(&mut self, k: u8, number: u8) -> Result<(), NoMemory>
+        requires known { k < MAX_SESSIONS }
+        requires some { (seat_at self.old.sessions.seats k).txn ≡ 0 → ⊥ }
+        requires open { is_over (seat_at self.old.sessions.seats k).stage ≡ false }
+        ensures saved { OnOk result (self.new.sessions ≡ saved self.old.sessions k number) }
+        ensures entries { self.new.entries ≡ self.old.entries }
+        ensures err { OnErr result (self.new ≡ self.old) }
+    {
+        self.txns.save(k + 1, number)?;
+        clear(&mut self.stages, k);
+        self.sessions = saves(&self.sessions, k, number);
+        Ok(())
+    }
+
+    /// Begins the rollback to the savepoint of that number, which stands at that LSN; the later savepoints are dropped.
+    pub fn rewind(&mut self, k: u8, number: u8, at: Lsn)
+        requires known { k < MAX_SESSIONS }
+        requires some { (seat_at self.old.sessions.seats k).txn ≡ 0 → ⊥ }
+        requires open { is_over (seat_at self.old.sessions.seats k).stage ≡ false }
+        requires there { IsSavepoint (seat_at self.old.sessions.seats k).saves number (Some at) }
+        ensures sessions { self.new.sessions ≡ rewound self.old.sessions k number at.0 }
+        ensures entries { self.new.entries ≡ self.old.entries }
+    {
+        self.txns.back(k + 1, number);
+        set(
+            &mut self.stages,
+            k,
+            Stage::Rolls(Aim::Savepoint(number, at)),
+        );
+        self.sessions = rewinds(&self.sessions, k, number, at);
     }
 }

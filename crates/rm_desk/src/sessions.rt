@@ -2,7 +2,7 @@
 
 ghost use Rattle.std.specs.Prelude.{◌≡◌};
 ghost use Rattle.rm_desk.specs.Stages.{stage_of};
-ghost use Rattle.rm_desk.specs.Desks.{goes as goes_to, begun, seated, committed, ended, entered, changed, held, undone};
+ghost use Rattle.rm_desk.specs.Desks.{goes as goes_to, begun, seated, committed, ended, entered, changed, held, undone, saved, rewound};
 ghost use Rattle.rm_core.specs.State.{empty_seat};
 
 use crate::stages::Stage;
@@ -111,4 +111,25 @@ pub(crate) fn undoes(
     ensures { result ≡ undone sessions.now k lsn.0 (stage_of stage.now) }
 {
     Noted::of(&(sessions, k, lsn, stage))
+}
+
+// A savepoint is set.
+#[inline(always)]
+pub(crate) fn saves(sessions: &Noted<SessionList>, k: u8, number: u8) -> Noted<SessionList>
+    ensures { result ≡ saved sessions.now k number }
+{
+    Noted::of(&(sessions, k, number))
+}
+
+// The rollback to a savepoint begins.
+#[inline(always)]
+pub(crate) fn rewinds(
+    sessions: &Noted<SessionList>,
+    k: u8,
+    number: u8,
+    at: Lsn,
+) -> Noted<SessionList>
+    ensures { result ≡ rewound sessions.now k number at.0 }
+{
+    Noted::of(&(sessions, k, number, at))
 }
