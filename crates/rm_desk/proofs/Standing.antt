@@ -1,5 +1,5 @@
 -- The tables stand for the sessions after a move of one of them.
-use Rattle.std.proofs.Common.{◌≡◌, ℕ, ◌+◌, ◌<◌, ◌≤◌, ◌⊎◌, ◌↔◌, option_map, inl, inr, Bool, true, false, if◌then◌else◌, ◌==◌, List, [], ◌∷◌, length, slice_index_or, slice_set, Option, Some, None, IsSome, IfSome, refl, sym, ap, subst, ◌∙◌, arith}
+use Rattle.std.proofs.Common.{◌≡◌, ℕ, ◌+◌, ◌<◌, ◌≤◌, ◌⊎◌, ◌↔◌, option_map, inl, inr, if◌then◌else◌, ◌==◌, List, [], ◌∷◌, length, slice_set, Option, Some, None, IsSome, IfSome, refl, sym, ap, subst, ◌∙◌, arith}
 use Rattle.std.proofs.lemmas.Bool.{cases_eq, cases_lt, ne_eqb, false≢true}
 use Rattle.std.proofs.lemmas.List.{length-set, get_or-set_same, get_or-set_other, get_or_past}
 use Rattle.rm_types.specs.declared.numbers.Lsn.{Lsn}
@@ -24,7 +24,7 @@ use Rattle.rm_txns.specs.Transactions.{begun as begun_txn, after_commit}
 use Rattle.rm_desk.specs.declared.stages.Stage.{Stage}
 use Rattle.rm_desk.specs.declared.stages.Stage.TheVariants.{Idle, Forces}
 use Rattle.rm_desk.specs.Stages.{stage_of}
-use Rattle.rm_desk.specs.Desks.{Sessions, is_over, seat_from, stage_at, goes, seated, begun, committed, ended, owed_in, IsOn, IsAccounted, Accounts, Stands}
+use Rattle.rm_desk.specs.Desks.{Sessions, is_over, seat_from, stage_at, goes, seated, begun, committed, ended, owed_in, IsOn, Accounts, Stands}
 
 owes_is : (stage : state.Stage) (bytes : ℕ) → owes_at stage bytes ≡ (if is_over stage then 0 else TXN_BYTES + bytes)
 owes_is forces bytes = refl

@@ -1,5 +1,5 @@
 -- The tables stand for the sessions after a change is undone.
-use Rattle.std.proofs.Common.{◌≡◌, ℕ, ◌+◌, ◌≤◌, ◌<◌, inl, inr, Bool, false, List, [], ◌∷◌, Option, Some, None, IfSome, option_map, slice_set, refl, sym, ap, subst, ◌∙◌, arith}
+use Rattle.std.proofs.Common.{◌≡◌, ℕ, ◌+◌, ◌≤◌, ◌<◌, inl, inr, false, List, [], ◌∷◌, Option, Some, None, IfSome, option_map, slice_set, refl, sym, ap, subst, ◌∙◌, arith}
 use Rattle.std.specs.Option.{ForSome}
 use Rattle.std.proofs.lemmas.Bool.{cases_eq}
 use Rattle.rm_types.specs.declared.numbers.Lsn.{Lsn}
@@ -9,7 +9,7 @@ use Rattle.rm_model.specs.Pages.{row_length}
 use Rattle.rm_history.specs.Acts.{Change, Undo, History, undoes}
 use Rattle.rm_history.specs.Laws.{AreChained}
 use Rattle.rm_history.specs.Needs.{need_of, need_for, on_page, FitsOn}
-use Rattle.rm_history.specs.Pending.{pending_of, last_of}
+use Rattle.rm_history.specs.Pending.{pending_of}
 use Rattle.rm_history.specs.RoomLaws.{NeedsAreLogged}
 use Rattle.rm_history.specs.Rules.{IsInOrder}
 use Rattle.rm_history.specs.Undoing.{undo_for}

@@ -1,4 +1,3 @@
-use Rattle.rm_desk.proofs.Standing.{has_txn}
 use Rattle.rm_desk.proofs.Saving.{has_place, rewind_keeps}
 use Rattle.rm_desk.proofs.desk.Desk.rewind.Goals as goal
 

@@ -1,4 +1,3 @@
-use Rattle.rm_desk.proofs.Standing.{has_txn}
 use Rattle.rm_desk.proofs.Saving.{save_keeps}
 use Rattle.rm_desk.proofs.desk.Desk.save.Goals as goal
 

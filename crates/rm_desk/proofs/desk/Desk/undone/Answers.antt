@@ -1,4 +1,3 @@
-use Rattle.std.proofs.Common.{ap}
 use Rattle.rm_desk.proofs.Undoing.{last_at, undo_room, undo_entry, undo_owes, undo_keeps}
 use Rattle.rm_desk.proofs.desk.Desk.undone.Goals as goal
 
