@@ -11,7 +11,7 @@ use Rattle.rm_core.specs.State.{Grant}
 use Rattle.rm_core.proofs.Grants.{joined_any, joined_alone, more-released, released-less, alone_has}
 use Rattle.rm_locks.specs.LockTable.{LockTable, mode_in, entry_in, Holds, HoldsAlone as IsExclusive, is_exclusive, IsFree as IsFreeIn, IsLeastBlocker, Blocks as BlocksIn, is_same_lock, raised, Grants, Releases}
 use Rattle.rm_locks.proofs.Granted.{same_lock}
-use Rattle.rm_desk.specs.Granted.{is_alone, IsFree, IsLeastHolder, Stands}
+use Rattle.rm_desk.specs.Granted.{is_alone, IsFree, IsRefused, IsLeastHolder, Stands}
 
 -- ---- who blocks
 
@@ -37,6 +37,20 @@ pub none : (entries : LockTable) (grants : List Grant) → Stands entries grants
     → IfNone found (IsFreeIn entries txn rid mode) → IfNone found (IsFree grants txn rid mode)
 none entries grants stands txn rid mode None free = λ other apart blocks. free other apart ((blocks_same entries grants stands other rid mode).1 blocks)
 none entries grants stands txn rid mode (Some holder) is = tt
+
+-- whether one is found
+pub held : (entries : LockTable) (grants : List Grant) → Stands entries grants → (txn : ℕ) (rid : Rid) (mode : Mode) (found : Option TxnId)
+    → IfSome found (λ holder. IsLeastBlocker entries txn rid mode holder.0) → IfNone found (IsFreeIn entries txn rid mode)
+    → (IsTrue (is_some found) ↔ IsRefused grants txn rid mode) × (IsTrue (is_some found) → rid.slot ≤ MAX_SLOT)
+held entries grants stands txn rid mode None some is =
+    ((λ never. absurd (false≢true never), λ refused. absurd (none entries grants stands txn rid mode None is refused.0 refused.1 refused.2)), λ never. absurd (false≢true never))
+held entries grants stands txn rid mode (Some holder) is free =
+    let refused = (blocks_same entries grants stands holder.0 rid mode).0 is.blocks in
+    ((λ yes. (holder.0, is.other, refused), λ refused. refl), λ yes. stands.placed holder.0 rid (any mode refused))
+  where
+    any : (mode : Mode) → Blocks grants holder.0 rid (is_alone mode) → HasGrant grants holder.0 rid
+    any Shared alone = alone_has grants holder.0 rid alone
+    any Exclusive has = has
 
 -- ---- a lock more
 

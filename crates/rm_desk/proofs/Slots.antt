@@ -7,20 +7,6 @@ use Rattle.rm_types.specs.declared.slots.Slot.TheVariants.{Vacant}
 use Rattle.rm_model.specs.Pages.{row_at, slot_at}
 use Rattle.rm_core.specs.Searching.{IsHeld}
 use Rattle.rm_core.specs.State.{Grant}
-use Rattle.rm_locks.specs.LockTable.{LockTable, Holds}
-use Rattle.rm_desk.specs.Granted.{Stands}
-
-abbrev at : ℕ → ℕ → Rid
-at page slot = record { page = page; slot = slot }
-
--- what rm_locks answers: no other transaction has a lock there
-abbrev pub Answers : LockTable → ℕ → ℕ → ℕ → Bool → Type 0
-Answers entries txn page slot answer = IsTrue answer ↔ ((other : ℕ) → other ≢ txn → Holds entries other (at page slot) → ⊥)
-
-pub is_held : (entries : LockTable) (grants : List Grant) → Stands entries grants → (txn page slot : ℕ) (answer : Bool) → Answers entries txn page slot answer → answer ≡ false
-    → (IsHeld grants txn page slot → ⊥) → ⊥
-is_held entries grants stands txn page slot answer is not free =
-    let yes : answer ≡ true = is.1 (λ other apart holds. free (other, apart, (stands.held other (at page slot)).0 holds)) in false≢true cc
 
 -- the least slots are taken or held, up to the next vacant one
 pub least_next : (slots : List Slot) (IsTaken : ℕ → Type 0) (slot next : ℕ) → ((lower : ℕ) → lower < slot → slot_at slots lower ≡ Vacant → (IsTaken lower → ⊥) → ⊥)

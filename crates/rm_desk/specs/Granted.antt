@@ -18,7 +18,10 @@ abbrev pub is_alone : Mode → Bool
 is_alone Shared = false
 is_alone Exclusive = true
 
--- no other transaction's grants refuse the lock
+-- another transaction's grants refuse the lock; no other's do
+abbrev pub IsRefused : List Grant → ℕ → Rid → Mode → Type 0
+IsRefused grants txn rid mode = (other : ℕ) × (other ≡ txn → ⊥) × Blocks grants other rid (is_alone mode)
+
 abbrev pub IsFree : List Grant → ℕ → Rid → Mode → Type 0
 IsFree grants txn rid mode = (other : ℕ) → (other ≡ txn → ⊥) → Blocks grants other rid (is_alone mode) → ⊥
 

@@ -1,12 +1,12 @@
 //! The row locks, as the machine's list of grants.
 
-ghost use Rattle.std.specs.Prelude.{◌≡◌, ◌≤◌, [], IfSome, IfNone, OnOk, OnErr};
+ghost use Rattle.std.specs.Prelude.{◌≡◌, ◌≤◌, [], IfSome, IfNone, IsTrue, ◌↔◌, OnOk, OnErr};
 ghost use Rattle.rm_types.specs.declared.numbers.TheConstants.{MAX_SLOT};
 ghost use Rattle.rm_history.specs.Room.{IsSlotForRow};
 ghost use Rattle.rm_core.specs.Locks.{joined, released};
 ghost use Rattle.rm_core.specs.Searching.{IsHeld};
 ghost use Rattle.rm_locks.specs.LockTable.{IsReady};
-ghost use Rattle.rm_desk.specs.Granted.{is_alone, IsFree, IsLeastHolder};
+ghost use Rattle.rm_desk.specs.Granted.{is_alone, IsRefused, IsFree, IsLeastHolder};
 
 use rm_locks::Locks;
 use rm_noted::Noted;
@@ -63,6 +63,14 @@ impl Grants {
         self.locks.blocker(txn, rid, mode)
     }
 
+    /// Whether another transaction's locks refuse `txn` one in this mode. They are on slots that a page may have.
+    pub fn is_held(&self, txn: TxnId, rid: Rid, mode: Mode) -> bool
+        ensures held { IsTrue result ↔ IsRefused self.now.grants txn.0 rid mode }
+        ensures inside { IsTrue result → rid.slot ≤ MAX_SLOT }
+    {
+        self.locks.blocker(txn, rid, mode).is_some()
+    }
+
     /// Makes room for a lock, so that [`Grants::grant`] takes no memory. All locks stay.
     ///
     /// # Errors
@@ -101,7 +109,7 @@ impl Grants {
         ensures { IsSlotForRow (IsHeld self.now.grants txn.0 number) page.now.slots result }
     {
         let mut slot = page.least_vacant(0);
-        while !self.locks.free_for(txn, Rid { page: number, slot }) {
+        while self.is_held(txn, Rid { page: number, slot }, Mode::Exclusive) {
             slot = page.least_vacant(slot + 1);
         }
         slot
