@@ -1,5 +1,6 @@
 -- The tables stand for the sessions after a change of a slot.
 use Rattle.std.proofs.Common.{◌≡◌, ℕ, ◌+◌, ◌-◌, ◌<◌, ◌↔◌, inl, inr, false, List, ◌∷◌, Option, Some, None, option_map, slice_set, refl, sym, ap, subst, ◌∙◌, arith}
+use Rattle.std.proofs.lemmas.Bool.Decides.{nat_tests}
 use Rattle.std.proofs.lemmas.Bool.{cases_eq, eq-eqb, ne_eqb}
 use Rattle.rm_types.specs.declared.numbers.Lsn.{Lsn}
 use Rattle.rm_types.specs.declared.numbers.TheConstants.{MAX_SESSIONS}
@@ -68,33 +69,14 @@ module _ (table : Table) (needs : Reserved) (stages : List Stage) (s : Sessions)
       }))
     where
       seat_is : (txn : Option Txn) → staged (seat_from txn (stage_at stages k)) (stage_of stage) ≡ seat_from (option_map (after_push lsn (row_length c.before)) txn) (stage_of stage)
-      seat_is None = refl
-      seat_is (Some txn) = refl
+      seat_is txn = grind (arith, nat_tests)
 
       accounted : (txn : Option Txn) → HasId txn c.txn → is_over (seat_from txn (stage_at stages k)).stage ≡ false → Accounts s.history (stage_at stages k) txn
           → Accounts after (stage_of stage) (option_map (after_push lsn (row_length c.before)) txn)
-      accounted None has going is = tt
-      accounted (Some txn) has going is =
-          let pending : pending_of after txn.id.0 ≡ c ∷ pending_of s.history txn.id.0 =
-          subst (λ n. pending_of after n ≡ c ∷ pending_of s.history n) (sym has) (pending-change c s.history) in
-          let owed = rw going at is.owed in
-          record { some = is.some; undo = rw pending (sym lsn_is); owed = rw (over, pending) (omega (arith, owed)); over = is.over ∙ going ∙ sym over }
+      accounted txn has going is = grind (arith, nat_tests, pending-change)
 
       needed : (page id : ℕ) → need_in left page id ≡ need_of after id page
-      needed page id = elim (cases_eq c.txn id) [
-        | inl mine ↦ elim (cases_eq c.rid.page page) [
-          | inl here ↦ subst (λ n. need_in left page n ≡ need_of after n page) mine
-              (subst (λ n. need_in left n c.txn ≡ need_of after c.txn n) here (sets.here ∙ need_after))
-          | inr there ↦ sets.elsewhere page id (λ same its. there (sym same)) ∙ stands.needed page id ∙ sym (ap need_for (pending_on-change c s.history id page there))
-        ]
-        | inr differs ↦ sets.elsewhere page id (λ same its. differs (sym its)) ∙ stands.needed page id ∙ sym (need_of-change_other s.history c id page differs)
-      ]
+      needed page id = grind (arith, nat_tests, sets, stands.needed, need_after, pending_on-change, need_of-change_other)
 
       there : (page id : ℕ) → IsOn (pending_of after id) page → HasEntry left page id
-      there page id on = elim (cases_eq c.txn id) [
-        | inl mine ↦ elim (subst (λ (l : List Change). IsOn l page) (subst (λ n. pending_of after n ≡ c ∷ pending_of s.history n) mine (pending-change c s.history)) on) [
-          | inl here ↦ (sets.entries page id).1 (subst (HasEntry needs page) mine (subst (λ n. HasEntry needs n c.txn) here ready))
-          | inr later ↦ (sets.entries page id).1 (stands.there page id later)
-        ]
-        | inr differs ↦ (sets.entries page id).1 (stands.there page id (subst (λ (l : List Change). IsOn l page) (pending-change_other c s.history id differs) on))
-      ]
+      there page id on = grind (arith, nat_tests, sets, stands.there, ready, pending-change, pending-change_other)

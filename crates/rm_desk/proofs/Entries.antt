@@ -1,5 +1,6 @@
 -- The entries of rm_locks stand for the machine's grants.
-use Rattle.std.proofs.Common.{◌≡◌, ◌≤◌, ℕ, ◌↔◌, ◌⊎◌, inl, inr, Bool, true, false, IsTrue, if◌then◌else◌, eqb, List, [], ◌∷◌, Option, Some, None, is_some, unwrap_or, IfSome, IfNone, refl, sym, subst}
+use Rattle.std.proofs.Common.{◌≡◌, ◌≤◌, ℕ, ◌↔◌, ◌⊎◌, inl, inr, Bool, true, false, IsTrue, if◌then◌else◌, eqb, List, [], ◌∷◌, Option, Some, None, is_some, unwrap_or, IfSome, IfNone, refl, sym, subst, arith}
+use Rattle.std.proofs.lemmas.Bool.Decides.{nat_tests}
 use Rattle.std.proofs.lemmas.Bool.{eqb-true, cond_both, eq-eqb, false≢true}
 use Rattle.rm_types.specs.declared.modes.Mode.{Mode}
 use Rattle.rm_types.specs.declared.modes.Mode.TheVariants.{Shared, Exclusive}
@@ -17,8 +18,7 @@ use Rattle.rm_desk.specs.Granted.{is_alone, IsFree, IsRefused, IsLeastHolder, St
 
 blocks_same : (entries : LockTable) (grants : List Grant) → Stands entries grants → (other : ℕ) (rid : Rid) (mode : Mode)
     → BlocksIn entries other rid mode ↔ Blocks grants other rid (is_alone mode)
-blocks_same entries grants stands other rid Shared = stands.alone other rid
-blocks_same entries grants stands other rid Exclusive = stands.held other rid
+blocks_same entries grants stands other rid mode = grind (arith, nat_tests)
 
 pub free_in : (entries : LockTable) (grants : List Grant) → Stands entries grants → (txn : ℕ) (rid : Rid) (mode : Mode) → IsFree grants txn rid mode
     → IsFreeIn entries txn rid mode
@@ -49,8 +49,7 @@ held entries grants stands txn rid mode (Some holder) is free =
     ((λ yes. (holder.0, is.other, refused), λ refused. refl), λ yes. stands.placed holder.0 rid (any mode refused))
   where
     any : (mode : Mode) → Blocks grants holder.0 rid (is_alone mode) → HasGrant grants holder.0 rid
-    any Shared alone = alone_has grants holder.0 rid alone
-    any Exclusive has = has
+    any mode refused = grind (arith, nat_tests, alone_has)
 
 -- ---- a lock more
 
@@ -75,21 +74,13 @@ joined_exclusive grants grant txn rid = (
 
 -- an exclusive lock stays so where it is raised, and an exclusive mode makes one
 raised_is : (held : Option Mode) (mode : Mode) → is_exclusive (Some (raised held mode)) ≡ true → IsTrue (is_alone mode) ⊎ (is_exclusive held ≡ true)
-raised_is None Shared is = inl is
-raised_is (Some held) Shared is = inr is
-raised_is held Exclusive is = inl refl
+raised_is held mode is = grind (arith, nat_tests)
 
 is_raised : (held : Option Mode) (mode : Mode) → IsTrue (is_alone mode) ⊎ (is_exclusive held ≡ true) → is_exclusive (Some (raised held mode)) ≡ true
-is_raised None Shared (inl is) = is
-is_raised None Shared (inr is) = is
-is_raised (Some held) Shared (inl never) = absurd (false≢true never)
-is_raised (Some held) Shared (inr is) = is
-is_raised held Exclusive is = refl
+is_raised held mode is = grind (arith, nat_tests)
 
 not_same : (txn other : ℕ) (rid at : Rid) → is_same_lock txn rid other at ≡ false → txn ≡ other → rid ≡ at → ⊥
-not_same txn other rid at apart txn_is rid_is =
-    let same : is_same_lock txn rid other at ≡ true = rw (← txn_is, ← rid_is) (rw (eq-eqb rid.page rid.page refl, eq-eqb rid.slot rid.slot refl, eq-eqb txn txn refl) refl) in
-    false≢true (cc)
+not_same txn other rid at apart txn_is rid_is = grind (arith, nat_tests)
 
 pub granted : (old new : LockTable) (grants : List Grant) → Stands old grants → (txn : ℕ) (rid : Rid) (mode : Mode) → rid.slot ≤ MAX_SLOT → Grants old new txn rid mode
     → Stands new (joined grants (record { txn = txn; rid = rid; alone = is_alone mode }))
@@ -103,15 +94,7 @@ granted old new grants stands txn rid mode inside grant_is = record {
     grant = record { txn = txn; rid = rid; alone = is_alone mode }
 
     held : (other : ℕ) (at : Rid) → Holds new other at ↔ HasGrant (grant ∷ grants) other at
-    held other at = rw (grant_is other at) (by (is_same_lock txn rid other at) refl)
-      where
-        by : (b : Bool) → is_same_lock txn rid other at ≡ b
-            → (is_some (unwrap_or (if b then Some (Some (raised (mode_in old txn rid) mode)) else entry_in old other at) None) ≡ true) ↔ HasGrant (grant ∷ grants) other at
-        by true same = ((λ is. inl (same_lock txn other rid at same)), λ has. refl)
-        by false apart = (
-          (λ is. inr ((stands.held other at).0 is)),
-          λ has. elim has [ inl now ↦ absurd (not_same txn other rid at apart now.0 now.1) | inr later ↦ (stands.held other at).1 later ],
-        )
+    held other at = rw (grant_is other at) (grind (arith, nat_tests, same_lock, not_same, stands))
 
     alone : (other : ℕ) (at : Rid) → IsExclusive new other at ↔ HoldsAlone (grant ∷ grants) other at
     alone other at = rw (grant_is other at) (by (is_same_lock txn rid other at) refl)
@@ -123,18 +106,13 @@ granted old new grants stands txn rid mode inside grant_is = record {
               (λ is. elim (raised_is (mode_in old txn rid) mode is) [ inl so ↦ inl (it.0, it.1, so) | inr so ↦ inr (rw (← it.0, ← it.1) ((stands.alone txn rid).0 so)) ]),
               λ has. is_raised (mode_in old txn rid) mode (elim has [ inl now ↦ inl now.2 | inr later ↦ inr ((stands.alone txn rid).1 (rw (it.0, it.1) later)) ]),
             )
-        by false apart = (
-          (λ is. inr ((stands.alone other at).0 is)),
-          λ has. elim has [ inl now ↦ absurd (not_same txn other rid at apart now.0 now.1) | inr later ↦ (stands.alone other at).1 later ],
-        )
+        by false apart = grind (arith, nat_tests, not_same, stands)
 
 -- ---- locks that go
 
 released_none : (grants : List Grant) (txn : ℕ) (rid : Rid) → HasGrant (released grants txn) txn rid → ⊥
-released_none [] txn rid = λ has. has
-released_none (first ∷ grants) txn rid =
-    cond_both (eqb first.txn txn) (released grants txn) (first ∷ released grants txn) (λ l. HasGrant l txn rid → ⊥) (λ is. released_none grants txn rid)
-    (λ is has. elim has [ inl now ↦ false≢true (sym (rw (eq-eqb first.txn txn now.0) at is)) | inr later ↦ released_none grants txn rid later ])
+released_none [] txn rid has = has
+released_none (first ∷ grants) txn rid has = grind (arith, nat_tests, released_none grants txn rid)
 
 pub let_go : (old new : LockTable) (grants : List Grant) → Stands old grants → (txn : ℕ) → Releases old new txn → Stands new (released grants txn)
 let_go old new grants stands txn release_is = record {
@@ -143,24 +121,21 @@ let_go old new grants stands txn release_is = record {
   placed = λ other rid has. stands.placed other rid ((released-less grants txn other rid).any has);
 }
   where
-    none_of : (other : ℕ) (rid : Rid) → eqb txn other ≡ true → HasGrant (released grants txn) other rid → ⊥
-    none_of other rid same has = released_none grants txn rid (subst (λ n. HasGrant (released grants txn) n rid) (sym (eqb-true txn other same)) has)
-
-    apart_of : (other : ℕ) → eqb txn other ≡ false → other ≡ txn → ⊥
-    apart_of other differs same = false≢true (sym (rw (eq-eqb txn other (sym same)) at differs))
+    apart : (other : ℕ) → eqb txn other ≡ false → other ≡ txn → ⊥
+    apart other differs same = grind (arith, nat_tests)
 
     held : (other : ℕ) (rid : Rid) (b : Bool) → eqb txn other ≡ b → (is_some (unwrap_or (if b then None else entry_in old other rid) None) ≡ true) ↔ HasGrant (released grants txn) other rid
-    held other rid true same = ((λ is. absurd (false≢true is)), λ has. absurd (none_of other rid same has))
+    held other rid true same = grind (arith, nat_tests, released_none)
     held other rid false differs = (
-      (λ is. (more-released grants txn other rid (apart_of other differs)).any ((stands.held other rid).0 is)),
+      (λ is. (more-released grants txn other rid (apart other differs)).any ((stands.held other rid).0 is)),
       λ has. (stands.held other rid).1 ((released-less grants txn other rid).any has),
     )
 
     alone : (other : ℕ) (rid : Rid) (b : Bool) → eqb txn other ≡ b
         → (is_exclusive (unwrap_or (if b then None else entry_in old other rid) None) ≡ true) ↔ HoldsAlone (released grants txn) other rid
     alone other rid true same =
-        ((λ is. absurd (false≢true is)), λ has. absurd (none_of other rid same (alone_has (released grants txn) other rid has)))
+        ((λ is. absurd (false≢true is)), λ has. absurd (false≢true ((held other rid true same).1 (alone_has (released grants txn) other rid has))))
     alone other rid false differs = (
-      (λ is. (more-released grants txn other rid (apart_of other differs)).alone ((stands.alone other rid).0 is)),
+      (λ is. (more-released grants txn other rid (apart other differs)).alone ((stands.alone other rid).0 is)),
       λ has. (stands.alone other rid).1 ((released-less grants txn other rid).alone has),
     )

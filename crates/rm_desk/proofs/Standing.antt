@@ -1,5 +1,6 @@
 -- The tables stand for the sessions after a move of one of them.
 use Rattle.std.proofs.Common.{◌≡◌, ℕ, ◌+◌, ◌<◌, ◌≤◌, ◌⊎◌, ◌↔◌, option_map, inl, inr, if◌then◌else◌, ◌==◌, List, [], ◌∷◌, length, slice_set, Option, Some, None, IsSome, IfSome, refl, sym, ap, subst, ◌∙◌, arith}
+use Rattle.std.proofs.lemmas.Bool.Decides.{nat_tests}
 use Rattle.std.proofs.lemmas.Bool.{cases_eq, cases_lt, ne_eqb, false≢true}
 use Rattle.std.proofs.lemmas.List.{length-set, get_or-set_same, get_or-set_other, get_or_past}
 use Rattle.rm_types.specs.declared.numbers.Lsn.{Lsn}
@@ -27,23 +28,16 @@ use Rattle.rm_desk.specs.Stages.{stage_of}
 use Rattle.rm_desk.specs.Desks.{Sessions, is_over, seat_from, stage_at, goes, seated, begun, committed, ended, owed_in, IsOn, Accounts, Stands}
 
 owes_is : (stage : state.Stage) (bytes : ℕ) → owes_at stage bytes ≡ (if is_over stage then 0 else TXN_BYTES + bytes)
-owes_is forces bytes = refl
-owes_is finishes bytes = refl
-owes_is other bytes = refl
+owes_is stage bytes = grind (arith, nat_tests)
 
 -- what a transaction owes is what its seat owes
 owed_is : (history : History) (stage : state.Stage) (txn : Option Txn) → Accounts history stage txn → owed_by history (seat_from txn stage) ≡ owed_of txn
-owed_is history stage None is = refl
-owed_is history stage (Some txn) is =
-    let some : txn.id.0 ≡ 0 → ⊥ = λ none. omega (arith, none, is.some) in
-    rw (ne_eqb txn.id.0 0 some) (owes_is stage (bytes_for (pending_of history txn.id.0)) ∙ sym is.owed)
+owed_is history stage txn is = grind (arith, nat_tests)
 
 -- where its changes are the same, it is accounted for as before
 accounts_same : (old new : History) (stage : state.Stage) (txn : Option Txn) → ((id : ℕ) → HasId txn id → pending_of new id ≡ pending_of old id)
     → Accounts old stage txn → Accounts new stage txn
-accounts_same old new stage None same is = is
-accounts_same old new stage (Some txn) same is =
-    let pending = same txn.id.0 refl in record { some = is.some; undo = rw pending is.undo; owed = rw pending is.owed; over = is.over }
+accounts_same old new stage txn same is = grind (arith, nat_tests)
 
 -- one session has another transaction or stage, and maybe a record is logged
 pub record Moved (table after : Table) (needs left : Reserved) (stages : List Stage) (s : Sessions) (k : ℕ) (txn : Option Txn) (stage : Stage) (history : History) (next : ℕ) : Type 0 where
@@ -90,15 +84,10 @@ moved table after needs left stages s k txn stage history next m = record {
     seat_there j apart = rw get_or-set_other refl
 
     seated : (j : ℕ) → j < MAX_SESSIONS → seat_at (slice_set s.seats k seat) j ≡ seat_from (txn_of after (j + 1)) (stage_at (slice_set stages k stage) j)
-    seated j inside = elim (cases_eq j k) [
-      | inl same ↦ rw (same, seat_here, m.only.here, stage_here) refl
-      | inr apart ↦ rw (seat_there j apart, txn_there j apart, stage_there j apart) (m.stands.seated j inside)
-    ]
+    seated j inside = grind (arith, nat_tests, stage_here, stage_there, txn_there, seat_here, seat_there, m)
 
     accounted : (j : ℕ) → j < MAX_SESSIONS → (j ≡ k) ⊎ (j ≡ k → ⊥) → Accounts history (stage_at (slice_set stages k stage) j) (txn_of after (j + 1))
-    accounted j inside (inl same) = rw (same, m.only.here, stage_here) m.accounted
-    accounted j inside (inr apart) =
-        rw (txn_there j apart, stage_there j apart) (accounts_same s.history history (stage_at stages j) (txn_of table (j + 1)) (λ id. m.others j id apart) (m.stands.accounted j inside))
+    accounted j inside at = grind (arith, nat_tests, m, stage_here, stage_there, txn_there, accounts_same)
 
     owes : total_of after ≡ owed_in (record { history = history; seats = slice_set s.seats k seat; next = next })
     owes =
@@ -127,16 +116,13 @@ moved table after needs left stages s k txn stage history next m = record {
 -- ---- a stage alone
 
 staged_is : (txn : Option Txn) (before after : state.Stage) → staged (seat_from txn before) after ≡ seat_from txn after
-staged_is None before after = refl
-staged_is (Some txn) before after = refl
+staged_is txn before after = grind (arith, nat_tests)
 
 accounts_at : (history : History) (before after : state.Stage) (txn : Option Txn) → is_over after ≡ is_over before → Accounts history before txn → Accounts history after txn
-accounts_at history before after None over is = is
-accounts_at history before after (Some txn) over is = record { some = is.some; undo = is.undo; owed = rw over is.owed; over = rw over is.over }
+accounts_at history before after txn over is = grind (arith, nat_tests)
 
 seat_stage : (txn : Option Txn) (at : state.Stage) → (seat_from txn at).stage ≡ at
-seat_stage None at = refl
-seat_stage (Some txn) at = refl
+seat_stage txn at = grind (arith, nat_tests)
 
 -- and maybe a record that changes nothing of what is pending
 pub stays_keep : (table : Table) (needs : Reserved) (stages : List Stage) (s : Sessions) → Stands table needs stages s → (k : ℕ) → k < MAX_SESSIONS → (stage : Stage)
@@ -168,8 +154,7 @@ pub has_txn : (table : Table) (needs : Reserved) (stages : List Stage) (s : Sess
 has_txn table needs stages s stands k among some = by (txn_of table (k + 1)) (λ none. some (ap (λ (at : Seat). at.txn) (stands.seated k among) ∙ none))
   where
     by : (txn : Option Txn) → ((seat_from txn (stage_at stages k)).txn ≡ 0 → ⊥) → IsSome txn
-    by None never = absurd (never refl)
-    by (Some txn) never = refl
+    by txn never = grind (arith, nat_tests)
 
 pub undo_is : (table : Table) (needs : Reserved) (stages : List Stage) (s : Sessions) → Stands table needs stages s → (k : ℕ) → k < MAX_SESSIONS → (found : Lsn)
     → ((seat_at s.seats k).txn ≡ 0 → ⊥) → IfSome (txn_of table (k + 1)) (λ txn. found ≡ txn.undo) → found.0 ≡ last_of (pending_of s.history (seat_at s.seats k).txn)
@@ -178,18 +163,12 @@ undo_is table needs stages s stands k among found some is =
   where
     by : (txn : Option Txn) → IsSome txn → Accounts s.history (stage_at stages k) txn → IfSome txn (λ txn. found ≡ txn.undo)
         → found.0 ≡ last_of (pending_of s.history (seat_from txn (stage_at stages k)).txn)
-    by None some at is = absurd (false≢true some)
-    by (Some txn) some at is = ap (λ (lsn : Lsn). lsn.0) is ∙ at.undo
+    by txn some at is = grind (arith, nat_tests)
 
 -- past the greatest id nothing is needed
 pending_past : (history : History) (txn : ℕ) → greatest_txn history < txn → pending_of history txn ≡ []
 pending_past [] txn past = refl
-pending_past (changes c ∷ before) txn past = pending-change_other c before txn (λ same. omega (arith, same, past)) ∙ pending_past before txn (omega (arith, past))
-pending_past (undoes u ∷ before) txn past = pending-undo_other u before txn (λ same. omega (arith, same, past)) ∙ pending_past before txn (omega (arith, past))
-pending_past (enters e ∷ before) txn past = pending_past before txn (omega (arith, past))
-pending_past (commits f ∷ before) txn past = pending-commit_other f before txn (λ same. omega (arith, same, past)) ∙ pending_past before txn (omega (arith, past))
-pending_past (ends f ∷ before) txn past = pending-end_other f before txn (λ same. omega (arith, same, past)) ∙ pending_past before txn (omega (arith, past))
-pending_past (marks m ∷ before) txn past = pending_past before txn past
+pending_past (act ∷ before) txn past = grind (arith, nat_tests, pending_past before txn)
 
 pub others_is : (table : Table) (needs : Reserved) (stages : List Stage) (s : Sessions) → Stands table needs stages s → (page txn sum : ℕ)
     → ((n : ℕ) → ((other : ℕ) → n ≤ other → need_in needs page other ≡ 0) → sum ≡ sum_below (with_need needs page txn 0) n) → sum ≡ others_need s.history txn page
@@ -244,8 +223,7 @@ pub is_id_of : (table : Table) (k : ℕ) (id : TxnId) → IsSome (txn_of table (
 is_id_of table k id some is ids = record { has = by (txn_of table (k + 1)) some is; ids = ids }
   where
     by : (txn : Option Txn) → IsSome txn → IfSome txn (λ txn. id ≡ txn.id) → HasId txn id.0
-    by None some is = absurd (false≢true some)
-    by (Some txn) some is = ap (λ (id : TxnId). id.0) (sym is)
+    by txn some is = grind (arith, nat_tests)
 
 pub apart_from : (table : Table) (k id : ℕ) → IsIdOf table k id → (j other : ℕ) → (j ≡ k → ⊥) → HasId (txn_of table (j + 1)) other → id ≡ other → ⊥
 apart_from table k id own j other apart has same =
@@ -283,8 +261,7 @@ pub seat_id : (table : Table) (needs : Reserved) (stages : List Stage) (s : Sess
 seat_id table needs stages s stands k among id own = ap (λ (at : Seat). at.txn) (stands.seated k among) ∙ by (txn_of table (k + 1)) own.has
   where
     by : (txn : Option Txn) → HasId txn id → (seat_from txn (stage_at stages k)).txn ≡ id
-    by None has = absurd has
-    by (Some txn) has = has
+    by txn has = grind (arith, nat_tests)
 
 pub ends_keep : (table after : Table) (needs left : Reserved) (stages : List Stage) (s : Sessions) → Stands table needs stages s → (k : ℕ) → k < MAX_SESSIONS → (id lsn : ℕ) → IsIdOf table k id
     → Released needs left id → ChangesOnly table after (k + 1) None
@@ -310,9 +287,7 @@ commits_keep table after needs left stages s stands k among id lsn own c only =
     f = record { lsn = lsn; txn = id }
 
     seat_is : (txn : Option Txn) → staged (seat_from txn (stage_at stages k)) forces ≡ seat_from (option_map after_commit txn) forces
-    seat_is None = refl
-    seat_is (Some txn) = refl
+    seat_is txn = grind (arith, nat_tests)
 
     by : (txn : Option Txn) → HasId txn id → Accounts s.history (stage_at stages k) txn → Accounts (commits f ∷ s.history) forces (option_map after_commit txn)
-    by None has is = tt
-    by (Some txn) has is = record { some = is.some; undo = sym (ap last_of (ap (pending_of (commits f ∷ s.history)) has ∙ pending-commit f s.history)); owed = refl; over = refl }
+    by txn has at = grind (arith, nat_tests, pending-commit)

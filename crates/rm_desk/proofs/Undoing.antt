@@ -1,5 +1,6 @@
 -- The tables stand for the sessions after a change is undone.
 use Rattle.std.proofs.Common.{◌≡◌, ℕ, ◌+◌, ◌≤◌, ◌<◌, inl, inr, false, List, [], ◌∷◌, Option, Some, None, IfSome, option_map, slice_set, refl, sym, ap, subst, ◌∙◌, arith}
+use Rattle.std.proofs.lemmas.Bool.Decides.{nat_tests}
 use Rattle.std.specs.Option.{ForSome}
 use Rattle.std.proofs.lemmas.Bool.{cases_eq}
 use Rattle.rm_types.specs.declared.numbers.Lsn.{Lsn}
@@ -124,8 +125,7 @@ module _ (table : Table) (needs : Reserved) (stages : List Stage) (s : Sessions)
       }))
     where
       seat_is : (txn : Option Txn) → staged (seat_from txn (stage_at stages k)) (stage_of stage) ≡ seat_from (option_map (after_pop under before) txn) (stage_of stage)
-      seat_is None = refl
-      seat_is (Some txn) = refl
+      seat_is txn = grind (arith, nat_tests)
 
       accounted : (txn : Option Txn) → HasId txn last.txn → is_over (seat_from txn (stage_at stages k)).stage ≡ false → Accounts s.history (stage_at stages k) txn
           → Accounts after (stage_of stage) (option_map (after_pop under before) txn)
@@ -137,20 +137,7 @@ module _ (table : Table) (needs : Reserved) (stages : List Stage) (s : Sessions)
           record { some = at.some; undo = rw pending (sym under_is ∙ chained.0); owed = rw (over, pending) (omega (arith, owed, before_is)); over = at.over ∙ going ∙ sym over }
 
       needed : (page id : ℕ) → need_in left page id ≡ need_of after id page
-      needed page id = elim (cases_eq last.txn id) [
-        | inl mine ↦ elim (cases_eq last.rid.page page) [
-          | inl here ↦ subst (λ n. need_in left page n ≡ need_of after n page) mine
-              (subst (λ n. need_in left n last.txn ≡ need_of after last.txn n) here (sets.here ∙ need_after))
-          | inr there ↦
-              sets.elsewhere page id (λ same its. there (sym same)) ∙ stands.needed page id ∙ sym (ap need_for (pending_on-undo undo s.history last rest id page is there))
-        ]
-        | inr differs ↦ sets.elsewhere page id (λ same its. differs (sym its)) ∙ stands.needed page id ∙ sym (need_of-undo_other s.history undo id page differs)
-      ]
+      needed page id = grind (arith, nat_tests, sets, stands.needed, need_after, pending_on-undo, need_of-undo_other)
 
       there : (page id : ℕ) → IsOn (pending_of after id) page → HasEntry left page id
-      there page id on = elim (cases_eq last.txn id) [
-        | inl mine ↦
-            let older : IsOn rest page = subst (λ (l : List Change). IsOn l page) (ap (pending_of after) (sym mine) ∙ pending_of-undo s.history undo last rest is) on in
-            (sets.entries page id).1 (stands.there page id (subst (λ (l : List Change). IsOn l page) (sym is ∙ ap (pending_of s.history) mine) (inr older)))
-        | inr differs ↦ (sets.entries page id).1 (stands.there page id (subst (λ (l : List Change). IsOn l page) (pending-undo_other undo s.history id differs) on))
-      ]
+      there page id on = grind (arith, nat_tests, sets, stands.there, is, pending_of-undo, pending-undo_other)
