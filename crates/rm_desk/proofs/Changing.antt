@@ -1,25 +1,10 @@
 -- The tables stand for the sessions after a change of a slot.
-use Rattle.std.proofs.Common.{◌≡◌, ℕ, ◌+◌, ◌-◌, ◌<◌, ◌↔◌, inl, inr, false, List, ◌∷◌, Option, Some, None, option_map, slice_set, refl, sym, ap, subst, ◌∙◌, arith}
-use Rattle.std.proofs.lemmas.Bool.Decides.{nat_tests}
-use Rattle.std.proofs.lemmas.Bool.{cases_eq, eq-eqb, ne_eqb}
-use Rattle.rm_types.specs.declared.numbers.Lsn.{Lsn}
-use Rattle.rm_types.specs.declared.numbers.TheConstants.{MAX_SESSIONS}
-use Rattle.rm_model.specs.Pages.{row_length}
-use Rattle.rm_model.proofs.Sums.{sum_below-same}
-use Rattle.rm_history.specs.Acts.{Change, History, changes}
-use Rattle.rm_history.specs.Needs.{need_of, need_for, FitsOn}
-use Rattle.rm_history.specs.Pending.{pending_of}
-use Rattle.rm_history.proofs.NeedSums.{need_of-change, need_of-change_other, pending_on-change}
-use Rattle.rm_history.proofs.PendingSteps.{pending-change, pending-change_other}
-use Rattle.rm_core.specs.Effects.{staged}
-use Rattle.rm_core.specs.State.{Seat, seat_at}
-use Rattle.rm_need.specs.Needs.{Reserved, need_in, HasEntry, with_need, HasRoom, IsOther}
-use Rattle.rm_txns.specs.declared.transaction.Txn.{Txn}
-use Rattle.rm_txns.specs.Tables.{Table, txn_of, ChangesOnly, HasId}
-use Rattle.rm_txns.specs.Transactions.{after_push}
-use Rattle.rm_desk.specs.declared.stages.Stage.{Stage}
-use Rattle.rm_desk.specs.Stages.{stage_of}
-use Rattle.rm_desk.specs.Desks.{Sessions, is_over, seat_from, stage_at, goes, logged, IsOn, Accounts, Stands}
+use Rattle.rm_desk.proofs.Names.{◌≡◌, ℕ, ◌+◌, ◌-◌, ◌<◌, ◌↔◌, inl, inr, false, List, ◌∷◌, Option, Some, None, option_map, slice_set, refl, sym, ap, subst, ◌∙◌}
+use Rattle.rm_desk.proofs.Names.{arith, nat_tests, cases_eq, eq-eqb, ne_eqb, Lsn, MAX_SESSIONS, row_length, sum_below-same, Change, History, changes, need_of}
+use Rattle.rm_desk.proofs.Names.{need_for, FitsOn, pending_of, need_of-change, need_of-change_other, pending_on-change, pending-change, pending-change_other}
+use Rattle.rm_desk.proofs.Names.{staged, Seat, seat_at, Reserved, need_in, HasEntry, with_need, HasRoom, IsOther, Txn, Table, txn_of, ChangesOnly, HasId}
+use Rattle.rm_desk.proofs.Names.{after_push, Stage, stage_of, Sessions, is_over, seat_from, stage_at, goes, logged, IsOn, Accounts}
+use Rattle.rm_desk.specs.Desks.{Stands}
 use Rattle.rm_desk.proofs.Standing.{only_now, moved, IsIdOf, apart_from}
 
 -- where a page fits with the needs of a history, so it does with one need of it that is set in the table

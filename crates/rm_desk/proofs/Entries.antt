@@ -1,18 +1,10 @@
 -- The entries of rm_locks stand for the machine's grants.
-use Rattle.std.proofs.Common.{◌≡◌, ◌≤◌, ℕ, ◌↔◌, ◌⊎◌, inl, inr, Bool, true, false, IsTrue, if◌then◌else◌, eqb, List, [], ◌∷◌, Option, Some, None, is_some, unwrap_or, IfSome, IfNone, refl, sym, subst, arith}
-use Rattle.std.proofs.lemmas.Bool.Decides.{nat_tests}
-use Rattle.std.proofs.lemmas.Bool.{eqb-true, cond_both, eq-eqb, false≢true}
-use Rattle.rm_types.specs.declared.modes.Mode.{Mode}
-use Rattle.rm_types.specs.declared.modes.Mode.TheVariants.{Shared, Exclusive}
-use Rattle.rm_types.specs.declared.numbers.Rid.{Rid}
-use Rattle.rm_types.specs.declared.numbers.TxnId.{TxnId}
-use Rattle.rm_types.specs.declared.numbers.TheConstants.{MAX_SLOT}
-use Rattle.rm_core.specs.Locks.{HasGrant, HoldsAlone, Blocks, has_it, joined, released}
-use Rattle.rm_core.specs.State.{Grant}
-use Rattle.rm_core.proofs.Grants.{joined_any, joined_alone, more-released, released-less, alone_has}
-use Rattle.rm_locks.specs.LockTable.{LockTable, mode_in, entry_in, Holds, HoldsAlone as IsExclusive, is_exclusive, IsFree as IsFreeIn, IsLeastBlocker, Blocks as BlocksIn, is_same_lock, raised, Grants, Releases}
-use Rattle.rm_locks.proofs.Granted.{same_lock}
-use Rattle.rm_desk.specs.Granted.{is_alone, IsFree, IsRefused, IsLeastHolder, Stands}
+use Rattle.rm_desk.proofs.Names.{◌≡◌, ◌≤◌, ℕ, ◌↔◌, ◌⊎◌, inl, inr, Bool, true, false, IsTrue, if◌then◌else◌, eqb, List, [], ◌∷◌, Option, Some, None, is_some}
+use Rattle.rm_desk.proofs.Names.{unwrap_or, IfSome, IfNone, refl, sym, subst, arith, nat_tests, eqb-true, cond_both, eq-eqb, false≢true, Mode, Shared}
+use Rattle.rm_desk.proofs.Names.{Exclusive, Rid, TxnId, MAX_SLOT, HasGrant, HoldsAlone, Blocks, has_it, joined, released, Grant, joined_any, joined_alone}
+use Rattle.rm_desk.proofs.Names.{more-released, released-less, alone_has, LockTable, mode_in, entry_in, Holds, is_exclusive, IsLeastBlocker, is_same_lock}
+use Rattle.rm_desk.proofs.Names.{raised, Grants, Releases, same_lock, is_alone, IsFree, IsRefused, IsLeastHolder, Stands}
+use Rattle.rm_locks.specs.LockTable.{HoldsAlone as IsExclusive, IsFree as IsFreeIn, Blocks as BlocksIn}
 
 -- ---- who blocks
 

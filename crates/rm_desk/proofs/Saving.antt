@@ -1,23 +1,12 @@
 -- The tables stand for the sessions after a savepoint is set, and gone back to.
-use Rattle.std.proofs.Common.{◌≡◌, ℕ, if◌then◌else◌, find, ◌+◌, ◌<◌, inl, inr, false, List, [], ◌∷◌, Option, Some, None, IsSome, IfSome, option_map, slice_set, refl, sym, ap, ◌∙◌, arith}
-use Rattle.std.proofs.lemmas.Bool.Decides.{nat_tests}
-use Rattle.std.specs.Option.{ForSome}
-use Rattle.std.proofs.lemmas.Bool.{cases_eq, eq-eqb, ne_eqb, false≢true}
-use Rattle.rm_types.specs.declared.numbers.Lsn.{Lsn}
-use Rattle.rm_types.specs.declared.numbers.TheConstants.{MAX_SESSIONS}
-use Rattle.rm_history.specs.Pending.{pending_of, last_of}
+use Rattle.rm_desk.proofs.Names.{◌≡◌, ℕ, if◌then◌else◌, find, ◌+◌, ◌<◌, inl, inr, false, List, [], ◌∷◌, Option, Some, None, IsSome, IfSome, option_map}
+use Rattle.rm_desk.proofs.Names.{slice_set, refl, sym, ap, ◌∙◌, arith, nat_tests, ForSome, cases_eq, eq-eqb, ne_eqb, false≢true, Lsn, MAX_SESSIONS}
+use Rattle.rm_desk.proofs.Names.{pending_of, last_of, Seat, HasNumber, dropped, upto, value_at, idle, rolls, returns, seat_at, Reserved, Savepoint, Txn}
+use Rattle.rm_desk.proofs.Names.{is_of, without, place_of, back_to, Table, txn_of, ChangesOnly, after_save, after_back, Stage, Idle, Rolls, Sessions, is_over}
+use Rattle.rm_desk.proofs.Names.{saves_of, seat_from, stage_at, saved, rewound, IsSavepoint, Accounts}
 use Rattle.rm_core.specs.State as state
-use Rattle.rm_core.specs.State.{Seat, HasNumber, dropped, upto, value_at, idle, rolls, returns, seat_at}
-use Rattle.rm_need.specs.Needs.{Reserved}
-use Rattle.rm_txns.specs.declared.savepoints.Savepoint.{Savepoint}
-use Rattle.rm_txns.specs.declared.transaction.Txn.{Txn}
-use Rattle.rm_txns.specs.Savepoints.{is_of, without, place_of, back_to}
-use Rattle.rm_txns.specs.Tables.{Table, txn_of, ChangesOnly}
-use Rattle.rm_txns.specs.Transactions.{after_save, after_back}
 use Rattle.rm_desk.specs.declared.stages.Aim.TheVariants as aims
-use Rattle.rm_desk.specs.declared.stages.Stage.{Stage}
-use Rattle.rm_desk.specs.declared.stages.Stage.TheVariants.{Idle, Rolls}
-use Rattle.rm_desk.specs.Desks.{Sessions, is_over, saves_of, seat_from, stage_at, saved, rewound, IsSavepoint, Accounts, Stands}
+use Rattle.rm_desk.specs.Desks.{Stands}
 use Rattle.rm_desk.proofs.Standing.{has_txn, sits_keep}
 
 -- ---- the lists

@@ -1,12 +1,6 @@
 -- The slot for a new row, as it is looked for.
-use Rattle.std.proofs.Common.{◌≡◌, ◌≢◌, ◌≤◌, ◌<◌, ◌+◌, ℕ, ◌↔◌, inl, inr, Bool, true, false, IsTrue, IsSome, List, subst, arith}
-use Rattle.std.proofs.lemmas.Bool.{cases_lt, cases_eq, false≢true}
-use Rattle.rm_types.specs.declared.numbers.Rid.{Rid}
-use Rattle.rm_types.specs.declared.slots.Slot.{Slot}
-use Rattle.rm_types.specs.declared.slots.Slot.TheVariants.{Vacant}
-use Rattle.rm_model.specs.Pages.{row_at, slot_at}
-use Rattle.rm_core.specs.Searching.{IsHeld}
-use Rattle.rm_core.specs.State.{Grant}
+use Rattle.rm_desk.proofs.Names.{◌≡◌, ◌≢◌, ◌≤◌, ◌<◌, ◌+◌, ℕ, ◌↔◌, inl, inr, Bool, true, false, IsTrue, IsSome, List, subst, arith, cases_lt, cases_eq}
+use Rattle.rm_desk.proofs.Names.{false≢true, Rid, Slot, Vacant, row_at, slot_at, IsHeld, Grant}
 
 -- the least slots are taken or held, up to the next vacant one
 pub least_next : (slots : List Slot) (IsTaken : ℕ → Type 0) (slot next : ℕ) → ((lower : ℕ) → lower < slot → slot_at slots lower ≡ Vacant → (IsTaken lower → ⊥) → ⊥)

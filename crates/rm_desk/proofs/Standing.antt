@@ -1,31 +1,16 @@
 -- The tables stand for the sessions after a move of one of them.
-use Rattle.std.proofs.Common.{◌≡◌, ℕ, ◌+◌, ◌<◌, ◌≤◌, ◌⊎◌, ◌↔◌, option_map, inl, inr, if◌then◌else◌, ◌==◌, List, [], ◌∷◌, length, slice_set, Option, Some, None, IsSome, IfSome, refl, sym, ap, subst, ◌∙◌, arith}
-use Rattle.std.proofs.lemmas.Bool.Decides.{nat_tests}
-use Rattle.std.proofs.lemmas.Bool.{cases_eq, cases_lt, ne_eqb, false≢true}
-use Rattle.std.proofs.lemmas.List.{length-set, get_or-set_same, get_or-set_other, get_or_past}
-use Rattle.rm_types.specs.declared.numbers.Lsn.{Lsn}
-use Rattle.rm_types.specs.declared.numbers.TxnId.{TxnId}
-use Rattle.rm_types.specs.declared.numbers.TheConstants.{MAX_SESSIONS}
-use Rattle.rm_model.specs.Sums.{sum_below}
-use Rattle.rm_model.proofs.Sums.{sum_below-one, sum_below-same}
-use Rattle.rm_history.specs.Acts.{Change, Finish, History, changes, undoes, enters, commits, ends, marks}
-use Rattle.rm_history.specs.Needs.{need_of, need_for, on_page}
-use Rattle.rm_history.specs.Room.{others_need}
-use Rattle.rm_history.specs.Transactions.{greatest_txn}
-use Rattle.rm_history.proofs.PendingSteps.{pending-change_other, pending-undo_other, pending-commit, pending-commit_other, pending-end, pending-end_other}
-use Rattle.rm_history.specs.Pending.{pending_of, last_of}
-use Rattle.rm_core.specs.Effects.{staged}
-use Rattle.rm_core.specs.Room.{TXN_BYTES, bytes_for, owes_at, owed_by}
+use Rattle.rm_desk.proofs.Names.{◌≡◌, ℕ, ◌+◌, ◌<◌, ◌≤◌, ◌⊎◌, ◌↔◌, option_map, inl, inr, if◌then◌else◌, ◌==◌, List, [], ◌∷◌, length, slice_set, Option, Some}
+use Rattle.rm_desk.proofs.Names.{None, IsSome, IfSome, refl, sym, ap, subst, ◌∙◌, arith, nat_tests, cases_eq, cases_lt, ne_eqb, false≢true, length-set}
+use Rattle.rm_desk.proofs.Names.{get_or-set_same, get_or-set_other, get_or_past, Lsn, TxnId, MAX_SESSIONS, sum_below, sum_below-one, sum_below-same, Change}
+use Rattle.rm_desk.proofs.Names.{Finish, History, changes, undoes, enters, commits, ends, marks, need_of, need_for, on_page, others_need, greatest_txn}
+use Rattle.rm_desk.proofs.Names.{pending-change_other, pending-undo_other, pending-commit, pending-commit_other, pending-end, pending-end_other, pending_of}
+use Rattle.rm_desk.proofs.Names.{last_of, staged, TXN_BYTES, bytes_for, owes_at, owed_by, Seat, seat_at, empty_seat, forces, finishes, Reserved, need_in}
+use Rattle.rm_desk.proofs.Names.{HasEntry, with_need, Txn, Table, txn_of, owed_of, ChangesOnly, HasId, HaveOwnIds, after_commit, Stage, Idle, Forces}
+use Rattle.rm_desk.proofs.Names.{stage_of, Sessions, is_over, seat_from, stage_at, goes, seated, begun, committed, ended, owed_in, IsOn, Accounts}
 use Rattle.rm_core.specs.State as state
-use Rattle.rm_core.specs.State.{Seat, seat_at, empty_seat, forces, finishes}
-use Rattle.rm_need.specs.Needs.{Reserved, need_in, HasEntry, with_need}
-use Rattle.rm_txns.specs.declared.transaction.Txn.{Txn}
-use Rattle.rm_txns.specs.Tables.{Table, txn_of, owed_of, owed_by as total_of, ChangesOnly, HasId, HaveOwnIds}
-use Rattle.rm_txns.specs.Transactions.{begun as begun_txn, after_commit}
-use Rattle.rm_desk.specs.declared.stages.Stage.{Stage}
-use Rattle.rm_desk.specs.declared.stages.Stage.TheVariants.{Idle, Forces}
-use Rattle.rm_desk.specs.Stages.{stage_of}
-use Rattle.rm_desk.specs.Desks.{Sessions, is_over, seat_from, stage_at, goes, seated, begun, committed, ended, owed_in, IsOn, Accounts, Stands}
+use Rattle.rm_txns.specs.Tables.{owed_by as total_of}
+use Rattle.rm_txns.specs.Transactions.{begun as begun_txn}
+use Rattle.rm_desk.specs.Desks.{Stands}
 
 owes_is : (stage : state.Stage) (bytes : ℕ) → owes_at stage bytes ≡ (if is_over stage then 0 else TXN_BYTES + bytes)
 owes_is stage bytes = grind (arith, nat_tests)

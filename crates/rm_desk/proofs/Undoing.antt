@@ -1,36 +1,11 @@
 -- The tables stand for the sessions after a change is undone.
-use Rattle.std.proofs.Common.{◌≡◌, ℕ, ◌+◌, ◌≤◌, ◌<◌, inl, inr, false, List, [], ◌∷◌, Option, Some, None, IfSome, option_map, slice_set, refl, sym, ap, subst, ◌∙◌, arith}
-use Rattle.std.proofs.lemmas.Bool.Decides.{nat_tests}
-use Rattle.std.specs.Option.{ForSome}
-use Rattle.std.proofs.lemmas.Bool.{cases_eq}
-use Rattle.rm_types.specs.declared.numbers.Lsn.{Lsn}
-use Rattle.rm_types.specs.declared.numbers.TxnId.{TxnId}
-use Rattle.rm_types.specs.declared.numbers.TheConstants.{MAX_SESSIONS}
-use Rattle.rm_model.specs.Pages.{row_length}
-use Rattle.rm_history.specs.Acts.{Change, Undo, History, undoes}
-use Rattle.rm_history.specs.Laws.{AreChained}
-use Rattle.rm_history.specs.Needs.{need_of, need_for, on_page, FitsOn}
-use Rattle.rm_history.specs.Pending.{pending_of}
-use Rattle.rm_history.specs.RoomLaws.{NeedsAreLogged}
-use Rattle.rm_history.specs.Rules.{IsInOrder}
-use Rattle.rm_history.specs.Undoing.{undo_for}
-use Rattle.rm_history.proofs.Chains.{last_is_of}
-use Rattle.rm_history.proofs.NeedChains.{needs_go_on}
-use Rattle.rm_history.proofs.NeedSums.{need_of-undo_other, pending_of-undo, pending_on-undo}
-use Rattle.rm_history.proofs.PendingLaws.{pending_is_chained}
-use Rattle.rm_history.proofs.PendingSteps.{pending-undo_other}
-use Rattle.rm_core.specs.Effects.{staged}
-use Rattle.rm_core.specs.Room.{TXN_BYTES, bytes_for}
-use Rattle.rm_core.specs.State.{Seat, seat_at}
-use Rattle.rm_need.specs.Needs.{Reserved, need_in, HasEntry, HasRoom}
-use Rattle.rm_txns.specs.declared.transaction.Txn.{Txn}
-use Rattle.rm_txns.specs.declared.transaction.TheConstants.{OWED}
-use Rattle.rm_txns.specs.Tables.{Table, txn_of, ChangesOnly, HasId, HaveOwnIds}
-use Rattle.rm_txns.specs.Transactions.{after_pop}
-use Rattle.rm_desk.specs.declared.changes.LastChange.{LastChange}
-use Rattle.rm_desk.specs.declared.stages.Stage.{Stage}
-use Rattle.rm_desk.specs.Stages.{stage_of}
-use Rattle.rm_desk.specs.Desks.{Sessions, is_over, seat_from, stage_at, goes, undoing, IsLastOf, IsOn, IsAccounted, Accounts, Stands}
+use Rattle.rm_desk.proofs.Names.{◌≡◌, ℕ, ◌+◌, ◌≤◌, ◌<◌, inl, inr, false, List, [], ◌∷◌, Option, Some, None, IfSome, option_map, slice_set, refl, sym, ap}
+use Rattle.rm_desk.proofs.Names.{subst, ◌∙◌, arith, nat_tests, ForSome, cases_eq, Lsn, TxnId, MAX_SESSIONS, row_length, Change, Undo, History, undoes}
+use Rattle.rm_desk.proofs.Names.{AreChained, need_of, need_for, on_page, FitsOn, pending_of, NeedsAreLogged, IsInOrder, undo_for, last_is_of, needs_go_on}
+use Rattle.rm_desk.proofs.Names.{need_of-undo_other, pending_of-undo, pending_on-undo, pending_is_chained, pending-undo_other, staged, TXN_BYTES, bytes_for}
+use Rattle.rm_desk.proofs.Names.{Seat, seat_at, Reserved, need_in, HasEntry, HasRoom, Txn, OWED, Table, txn_of, ChangesOnly, HasId, HaveOwnIds, after_pop}
+use Rattle.rm_desk.proofs.Names.{LastChange, Stage, stage_of, Sessions, is_over, seat_from, stage_at, goes, undoing, IsLastOf, IsOn, IsAccounted, Accounts}
+use Rattle.rm_desk.specs.Desks.{Stands}
 use Rattle.rm_desk.proofs.Standing.{only_now, moved, has_txn, IsIdOf, is_id_of, seat_id, apart_from}
 use Rattle.rm_desk.proofs.Changing.{has_room, Sets}
 

@@ -1,5 +1,4 @@
-use Rattle.rm_desk.specs.Stages.{stage_of}
-use Rattle.rm_desk.specs.Desks.{changed}
+use Rattle.rm_desk.proofs.Names.{stage_of, changed}
 use Rattle.rm_desk.proofs.sessions.changes.Given as goal
 
 abbrev pub ghost-of : goal.ghost-of

@@ -1,5 +1,4 @@
-use Rattle.rm_desk.specs.Stages.{stage_of}
-use Rattle.rm_desk.specs.Desks.{entered}
+use Rattle.rm_desk.proofs.Names.{stage_of, entered}
 use Rattle.rm_desk.proofs.sessions.enters.Given as goal
 
 abbrev pub ghost-of : goal.ghost-of

@@ -1,5 +1,4 @@
-use Rattle.rm_desk.specs.Stages.{stage_of}
-use Rattle.rm_desk.specs.Desks.{goes}
+use Rattle.rm_desk.proofs.Names.{stage_of, goes}
 use Rattle.rm_desk.proofs.sessions.goes.Given as goal
 
 abbrev pub ghost-of : goal.ghost-of

@@ -1,5 +1,4 @@
-use Rattle.rm_core.specs.State.{empty_seat}
-use Rattle.rm_desk.specs.Desks.{seated}
+use Rattle.rm_desk.proofs.Names.{empty_seat, seated}
 use Rattle.rm_desk.proofs.sessions.leaves.Given as goal
 
 abbrev pub ghost-of : goal.ghost-of

@@ -1,5 +1,4 @@
-use Rattle.rm_desk.specs.Stages.{stage_of}
-use Rattle.rm_desk.specs.Desks.{undone}
+use Rattle.rm_desk.proofs.Names.{stage_of, undone}
 use Rattle.rm_desk.proofs.sessions.undoes.Given as goal
 
 abbrev pub ghost-of : goal.ghost-of

@@ -1,7 +1,4 @@
-use Rattle.std.proofs.Common.{refl, sym, subst}
-use Rattle.rm_core.specs.Effects.{change_of}
-use Rattle.rm_core.specs.State.{seat_at}
-use Rattle.rm_desk.specs.Desks.{held}
+use Rattle.rm_desk.proofs.Names.{refl, sym, subst, change_of, seat_at, held}
 use Rattle.rm_desk.proofs.Standing.{IsIdOf, has_txn, is_id_of, seat_id}
 use Rattle.rm_desk.proofs.Changing.{change_room, change_keeps}
 use Rattle.rm_desk.proofs.desk.Desk.changed.Goals as goal

@@ -1,6 +1,4 @@
-use Rattle.std.specs.Prelude.{replicate}
-use Rattle.rm_types.specs.declared.numbers.TheConstants.{MAX_SESSIONS}
-use Rattle.rm_core.specs.State.{empty_seat}
+use Rattle.rm_desk.proofs.Names.{replicate, MAX_SESSIONS, empty_seat}
 use Rattle.rm_desk.proofs.desk.Desk.new.Given as goal
 
 abbrev pub ghost-of : goal.ghost-of

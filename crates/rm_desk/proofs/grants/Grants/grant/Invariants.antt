@@ -1,5 +1,4 @@
-use Rattle.rm_core.specs.Locks.{joined}
-use Rattle.rm_desk.specs.Granted.{is_alone}
+use Rattle.rm_desk.proofs.Names.{joined, is_alone}
 use Rattle.rm_desk.proofs.grants.Grants.grant.Given as goal
 
 -- what is passed is the list so far, and then the parameters in their order

@@ -1,8 +1,4 @@
-use Rattle.std.proofs.Common.{◌≡◌, ℕ, ◌<◌, ◌-◌, ◌+◌, None}
-use Rattle.rm_types.specs.declared.numbers.TheConstants.{MAX_SLOT}
-use Rattle.rm_types.specs.declared.slots.Slot.TheVariants.{Vacant}
-use Rattle.rm_model.specs.Pages.{row_at, slot_at}
-use Rattle.rm_core.specs.Searching.{IsHeld}
+use Rattle.rm_desk.proofs.Names.{◌≡◌, ℕ, ◌<◌, ◌-◌, ◌+◌, None, MAX_SLOT, Vacant, row_at, slot_at, IsHeld}
 use Rattle.rm_desk.proofs.grants.Grants.slot_for.Given as goal
 
 abbrev pub invariant-loop-txn : goal.invariant-loop-txn
