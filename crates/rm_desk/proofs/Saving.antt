@@ -56,8 +56,7 @@ module _ (table : Table) (needs : Reserved) (stages : List Stage) (s : Sessions)
             stage = idle;
             saves = record { number = number; value = last_of (pending_of s.history (seat_from txn (stage_at stages k)).txn) } ∷ dropped (seat_from txn (stage_at stages k)).saves number;
           } ≡ seat_from (option_map (after_save number) txn) idle
-      seat_is None has at = absurd (false≢true has)
-      seat_is (Some txn) has at = rw (dropped_is txn.saves number, at.undo) refl
+      seat_is txn has at = grind (arith, nat_tests, dropped_is, at)
 
   pub rewind_keeps : (after : Table) (number : ℕ) (at : Lsn) → is_over (seat_at s.seats k).stage ≡ false → ChangesOnly table after (k + 1) (option_map (after_back number) (txn_of table (k + 1)))
       → Stands after needs (slice_set stages k (Rolls (aims.Savepoint number at))) (rewound s k number at.0)
@@ -74,8 +73,4 @@ module _ (table : Table) (needs : Reserved) (stages : List Stage) (s : Sessions)
 
   -- a savepoint that is there has a place in the table
   pub has_place : (number : ℕ) (at : Lsn) → IsSavepoint (seat_at s.seats k).saves number (Some at) → ForSome (txn_of table (k + 1)) (λ txn. IsSome (place_of number txn.saves))
-  has_place number at there txn txn_is =
-      let has : HasNumber (saves_of txn.saves) number = (rw (stands.seated k among, txn_is) at there).0 in by (place_of number txn.saves) (place_is txn.saves number) has
-    where
-      by : (place : Option Lsn) → IsSavepoint (saves_of txn.saves) number place → HasNumber (saves_of txn.saves) number → IsSome place
-      by place is has = grind (arith, nat_tests)
+  has_place number at there txn txn_is = grind (arith, nat_tests, place_is, rw (stands.seated k among, txn_is) at there)

@@ -231,10 +231,7 @@ closed table after needs left stages s stands k among id own history none others
   more = omega (arith, stands.next);
   others = λ j other apart has. others other (apart_from table k id own j other apart has);
   accounted = accounted;
-  needed = λ page other. elim (cases_eq other id) [
-    | inl same ↦ rw same (c.gone page ∙ sym (ap (λ (l : List Change). need_for (on_page page l)) none))
-    | inr differs ↦ c.other_needs page other differs ∙ stands.needed page other ∙ sym (ap (λ (l : List Change). need_for (on_page page l)) (others other (λ is. differs (sym is))))
-  ];
+  needed = λ page other. grind (arith, nat_tests, c, none, others, stands.needed);
   there = λ page other on. elim (cases_eq other id) [
     | inl same ↦ absurd (subst (λ (l : List Change). IsOn l page) (ap (pending_of history) same ∙ none) on)
     | inr differs ↦ (c.other_entries page other differs).1 (stands.there page other (subst (λ (l : List Change). IsOn l page) (others other (λ is. differs (sym is))) on))
