@@ -9,7 +9,6 @@
 mod answer;
 mod calls;
 mod modelled;
-mod noted;
 mod reading;
 mod reads;
 mod record;
@@ -18,6 +17,5 @@ mod start;
 pub use answer::Answer;
 pub use calls::Calls;
 pub use modelled::Modelled;
-pub use noted::Noted;
 pub use record::Record;
 pub use start::{Start, Unknown};

@@ -4,7 +4,7 @@ ghost use Rattle.std.specs.Prelude.{◌≡◌, [], ◌∷◌};
 ghost use Rattle.rm_calls.specs.Calls.{Read, Wrote, Synced};
 
 use crate::Answer;
-use crate::noted::Noted;
+use rm_noted::Noted;
 use rm_types::Area;
 use std::marker::Model;
 

@@ -5,8 +5,8 @@ use Rattle.rm_core.specs.Below.{Entry, Finish, undoes, enters, commits, pending_
 use Rattle.rm_core.specs.Names.{Effect, save_of, entry_now, latched, effect, after, goes_to, logging, with_effect, Locked, Kept, Wants, IsSeated, May, Step}
 use Rattle.rm_core.specs.Names.{closed, aborted, died, bytes_for, claims_at, claim_of, owed, claims, HasRoomFor, HasRoom, end_of, Savepoint, undoes_all}
 use Rattle.rm_core.specs.Names.{returns, dropped, upto, Stage, idle, seeks, wants, tries, reads, fetches, alters, sets, settles, forces, finishes, rolls}
-use Rattle.rm_core.specs.Names.{prepares, compensates, Seat, State, seat_at, Turn, skip, unname, refuse, begin, scan, scan_last, latch, try, try_last, insert}
-use Rattle.rm_core.specs.Names.{lock, lock_alone, wait, die, fetch, miss, lack, alter, settled, settle, commit, force, finish, abort, prepared, prepare}
+use Rattle.rm_core.specs.Names.{prepares, compensates, Seat, State, seat_at, Turn, begin, scan, scan_last, latch, try, try_last, insert}
+use Rattle.rm_core.specs.Names.{lock, lock_alone, die, fetch, miss, lack, alter, settled, settle, commit, force, finish, abort, prepared, prepare}
 use Rattle.rm_core.specs.Names.{compensate, end, save, no_target, target, back, owed_by, staged, Setting, Lacks, IsRefused}
 use Rattle.rm_core.proofs.Names.{nat_tests, set, refl, sym, ap, subst, ◌∙◌, arith, ne_eqb, length-set, last_is_of, sum_below-one, pending_of-undo}
 use Rattle.rm_core.proofs.Names.{pending-undo_other, pending-commit_other, pending-end_other, sum_below-less}

@@ -1,5 +1,6 @@
 -- The names of the machine, in one place for its proofs and for the crates that stand on it.
-unfoldable pub use Rattle.rm_core.specs.Sizes.{IsNext, end_of, size_of, change_record}
+pub use Rattle.rm_core.specs.Sizes.{IsNext, end_of, change_record}
+unfoldable pub use Rattle.rm_core.specs.Sizes.{size_of}
 pub use Rattle.rm_core.specs.Outcomes.{committed, Outcome, began, inserted, no_space, saw, altered, missed, full, saved, no_save, back_to, skipped, refused}
 pub use Rattle.rm_core.specs.Outcomes.{unbound, aborted, died, altering, asked, reply_of}
 pub use Rattle.rm_core.specs.State.{Aim, undoes_all, returns, target_of, Savepoint, upto, Stage, idle, seeks, wants, tries, reads, fetches, alters, sets}

@@ -1,5 +1,6 @@
 pub mod Appending
 pub mod RecordsOfActs
+pub mod Sizes
 pub mod RowIds
 pub mod Readings
 pub mod Damages

@@ -17,4 +17,5 @@ pub mod RoomLaws
 pub mod UndoLaws
 pub mod LiteralLaws
 pub mod Batched
+pub mod Sizes
 pub mod Room

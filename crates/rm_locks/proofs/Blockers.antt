@@ -84,7 +84,6 @@ searched map ordered txn rid mode each (Some e) is = by (is_on rid e) refl
     by false off = (
       tt,
       λ other apart blocks.
-          let from : is_gt (order.ghosts.cmp (key_of rid 0) e.0) ≡ false = held.0.0.0 in
           let upto : is_gt (order.ghosts.cmp e.0 (key_of rid other)) ≡ false = not_above map ordered txn rid mode (Some e) is other apart blocks in
-          grind (arith, nat_tests),
+          grind (arith, nat_tests, held.0.0.0),
     )

@@ -39,8 +39,7 @@ find_least {K} {X} {R} o exact inside test (e ∷ es) sorted k v found in_it pas
     by later Equal is =
         let same : k ≡ e.0 = exact k e.0 is in
         let at : is_at (R k) e.0 ≡ true = ap is_eq is in
-        let value : Some e.1 ≡ Some v = rw at at found in
-        let value_is : v ≡ e.1 = cc in
+        let value_is : v ≡ e.1 = let value : Some e.1 ≡ Some v = rw at at found in cc in
         let in_e : inside e.0 ≡ true = cc in
         let pass_e : test e ≡ true = rw (same, value_is) at passes in
         rw (in_e, pass_e) (ap is_gt (tied_back o k e.0 is))

@@ -1,13 +1,14 @@
 //! The directory of a page, as a plain list of slots, and the memory that it has.
 
-ghost use Rattle.std.specs.Prelude.{◌≡◌, ℕ, ◌+◌, ◌^◌, ◌<◌, ◌≤◌, [], length, max, option_copied, slice_index_or, IfOk, IsOk};
+ghost use Rattle.std.specs.Prelude.{◌≡◌, ℕ, ◌+◌, ◌^◌, ◌<◌, ◌≤◌, [], length, max, min, ◌/◌, option_copied, slice_index_or, IfOk, IsOk};
 ghost use Rattle.std.specs.Vec.{vec_capacity};
 ghost use Rattle.rm_types.specs.declared.slots.Slot.{Slot as Slots};
 ghost use Rattle.rm_types.specs.declared.numbers.TheConstants.{MAX_SLOT};
+ghost use Rattle.rm_types.specs.Formats.{category_bytes, greatest_category};
 ghost use Rattle.rm_model.specs.Pages.{used, row_length, row_at, set_slot};
 ghost use Rattle.rm_page.specs.Directory.{whole_steps, IsLeastVacant};
 
-use rm_types::{NoMemory, SLOT_ENTRY, Slot};
+use rm_types::{Format, NoMemory, SLOT_ENTRY, Slot};
 use std::alloc::Global;
 use std::marker::Model;
 
@@ -83,6 +84,14 @@ pub fn used_beside(slots: &[Slot], used_now: u16, number: u16) -> usize
     let replaced = length_in(slots, number);
     let added = (number as usize + 1).saturating_sub(slots.len());
     used_now as usize - replaced + SLOT_ENTRY as usize * added
+}
+
+// The category of a page that uses so many bytes.
+pub fn category_for(format: Format, used: usize) -> u8
+    ensures { result ≡ min (greatest_category format) (used / category_bytes format) }
+{
+    let steps = used / format.category_bytes() as usize;
+    steps.min(format.greatest_category() as usize) as u8
 }
 
 // How many bytes the row in a slot has, 0 where there is none.

@@ -10,14 +10,15 @@ mod directory;
 mod files;
 
 ghost use Rattle.std.specs.Prelude.{◌≡◌, ℕ, ◌+◌, ◌<◌, ◌≤◌, [], length, option_copied, IfOk, IfSome, IsOk, IsSome, OnOk, OnErr};
+ghost use Rattle.rm_types.specs.declared.slots.Slot.{Slot as Slots};
 ghost use Rattle.rm_types.specs.declared.numbers.TheConstants.{MAX_SLOT};
 ghost use Rattle.rm_types.specs.declared.rows.TheConstants.{MAX_ROW};
-ghost use Rattle.rm_model.specs.Pages.{used, row_at, set_slot};
+ghost use Rattle.rm_model.specs.Pages.{used, row_at, row_length, set_slot};
 ghost use Rattle.rm_model.specs.Categories.{category_of};
 ghost use Rattle.rm_page.specs.Directory.{IsReady};
 
 pub use crate::directory::Spare;
-use crate::directory::{put, row_in, used_beside, vacant_from, whole_steps};
+use crate::directory::{category_for, put, row_in, used_beside, vacant_from, whole_steps};
 pub use crate::files::empty_pages;
 use rm_types::{CAPACITY, Format, Lsn, NoMemory, Row, Slot};
 use std::alloc::Global;
@@ -115,8 +116,15 @@ impl Page {
     pub fn category(&self, format: Format) -> u8
         ensures { result ≡ category_of format self.now.slots }
     {
-        let steps = self.used / format.category_bytes();
-        steps.min(format.greatest_category() as u16) as u8
+        category_for(format, self.used as usize)
+    }
+
+    /// How full the page would be with a row of `len` bytes in the slot, or with none where `len` is 0.
+    pub fn category_with(&self, format: Format, slot: u16, len: usize) -> u8
+        requires { len ≤ MAX_ROW }
+        ensures { (held : Slots) → row_length held ≡ len → result ≡ category_of format (set_slot self.now.slots slot held) }
+    {
+        category_for(format, used_beside(&self.slots, self.used, slot) + len)
     }
 
     /// Spare memory for the directory to reach a slot, so that [`Page::put`] takes none.

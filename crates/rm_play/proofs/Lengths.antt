@@ -1,9 +1,9 @@
 -- Each turn brings its operation nearer to its end.
 use Rattle.std.specs.Prelude.{◌≡◌, ℕ, ◌+◌, ◌*◌, ◌<◌, ◌≤◌, Bool, List, [], ◌∷◌, length}
 use Rattle.rm_core.specs.Below.{Format, Rid, Change, undoes, pending_of, undo_for, Op}
-use Rattle.rm_core.specs.Names.{effect, logging, staged, Kept, Asks, Wants, IsSeated, May, Step, again, log_full, spent, Setting, closed, Move, turns, answered}
-use Rattle.rm_core.specs.Names.{appends, append_refused, rests, Moves, Opening, Machine, IsRun, moved, Scans, target_of, Stage, idle, prepares, compensates}
-use Rattle.rm_core.specs.Names.{Seat, State, seat_at, Turn, scan, scan_last, latch, die, prepared, prepare, compensate}
+use Rattle.rm_core.specs.Names.{effect, logging, staged, Kept, Asks, IsSeated, May, Step, again, log_full, spent, Setting, closed, Move, turns, answered}
+use Rattle.rm_core.specs.Names.{appends, append_refused, rests, Moves, Opening, Machine, IsRun, moved, target_of, Stage, idle, prepares}
+use Rattle.rm_core.specs.Names.{Seat, State, seat_at, Turn, prepared, prepare, compensate}
 use Rattle.rm_play.specs.{Takes, TakesAt, above, left_at, turns_left, most_turns, TurnsComeNearer, Adds, Makes, OperationsEnd}
 use Rattle.rm_core.proofs.Names.{nat_tests, inl, inr, refl, sym, ap, subst, ◌∙◌, arith, ltb, cases_eq, cond_both, lt-ltb, last_is_of, pending_of-undo}
 use Rattle.rm_core.proofs.Moves.{moved-set}

@@ -3,14 +3,14 @@ use Rattle.std.specs.Bool.{Decides}
 use Rattle.std.specs.Prelude.{◌≡◌, ℕ, ◌+◌, ◌-◌, ◌*◌, ◌^◌, ◌==◌, ◌<◌, ◌≤◌, max, Bool, true, false, Option, Some, None, List, [], ◌∷◌, length, nat_lt, nat_le}
 use Rattle.std.specs.Prelude.{◌&&◌, if◌then◌else◌}
 use Rattle.rm_core.specs.Below.{category_bytes, Rid, MAX_SLOT, Slot, Vacant, Row, CAPACITY, slot_at, Change, page_of, entry_of}
-use Rattle.rm_core.specs.Below.{pending_of, IsSlotForRow, RowFits, unreserved, Op}
+use Rattle.rm_core.specs.Below.{IsSlotForRow, RowFits, unreserved, Op}
 use Rattle.rm_core.specs.Names.{after, Kept, Asks, IsInside, Wants, IsBlockedBy, IsSkipped, IsSeated, May, SlotFits, Setting, again, log_full, spent, Bars}
-use Rattle.rm_core.specs.Names.{IsSpent, Lacks, Move, turns, answered, CHANGE_COST, owed, Scans, IsHeld, MayTry, part_end, end_of, undoes_all, returns, Stage}
+use Rattle.rm_core.specs.Names.{IsSpent, Lacks, Move, turns, answered, CHANGE_COST, owed, Scans, IsHeld, MayTry, part_end, end_of, returns, Stage}
 use Rattle.rm_core.specs.Names.{idle, Seat, State, seat_at, Turn, skip, unname, refuse, begin, scan, scan_last, latch, try, try_last, insert, lock, lock_alone}
-use Rattle.rm_core.specs.Names.{wait, die, fetch, miss, lack, alter, settled, settle, commit, force, finish, abort, prepared, prepare, compensate, end, save}
-use Rattle.rm_core.specs.Names.{no_target, target, back}
+use Rattle.rm_core.specs.Names.{wait, die, lack, alter}
+use Rattle.rm_core.specs.Names.{back}
 use Rattle.rm_play.specs.{Takes, TakesAt, MayTake, IsMoveFor, erased, AsksRoom, IsAlike, MovesAreOne, slot_for, found_at, scanning, latching, latching_at}
-use Rattle.rm_play.specs.{locking_against, locking, altering_to, rolling, preparing, compensating, outside, asking, chosen_at}
+use Rattle.rm_play.specs.{locking_against, locking, altering_to, rolling, outside, asking, chosen_at}
 use Rattle.rm_core.proofs.Names.{nat_tests, inl, inr, cond, refl, sym, ap, subst, ◌∙◌, arith, cases_eq, Decides-and, Decides-eqb, Decides-ltb}
 use Rattle.rm_core.proofs.Runs.{run_kept}
 use Rattle.rm_play.proofs.Finding.{if_else, decides_le, decides_number, IsLeast, In, first_is_least, barring_is_least, Keeps, blocker_is_least, slot_is_for_row}

@@ -1,4 +1,5 @@
 pub mod Misfits
+pub mod Redone
 pub mod Openings
 pub mod Soundness
 pub mod OneDamage

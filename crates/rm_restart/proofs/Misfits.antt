@@ -1,31 +1,24 @@
 -- How the replay of a record goes on to that of all records.
-use Rattle.std.proofs.Common.{◌≡◌, inl, inr, ℕ, ◌+◌, ◌<◌, ◌≤◌, List, [], ◌∷◌, ◌++◌, length, get_or, take, drop, Result, Ok, Err, IfErr, refl, sym, ap, subst, ◌∙◌, arith, suc}
-use Rattle.std.proofs.lemmas.Bool.{cases_lt, eq-eqb}
+use Rattle.std.proofs.Common.{◌≡◌, inl, inr, ℕ, ◌+◌, ◌<◌, ◌≤◌, List, [], ◌∷◌, ◌++◌, length, get_or, take, drop, refl, sym, ap, subst, ◌∙◌, arith, suc}
 use Rattle.std.proofs.lemmas.List.{append_assoc, length-take}
 use Rattle.std.proofs.Math.Seq.{split_at, take-suc}
-use Rattle.rm_types.specs.declared.numbers.Lsn.{Lsn}
-use Rattle.rm_types.specs.declared.numbers.Rid.{Rid}
-use Rattle.rm_types.specs.declared.numbers.TxnId.{TxnId}
-use Rattle.rm_types.specs.declared.slots.Slot.{Slot}
-use Rattle.rm_types.specs.declared.slots.Slot.TheVariants.{Row}
 use Rattle.rm_types.specs.declared.slots.TheConstants.{CAPACITY}
-use Rattle.rm_model.specs.Pages.{used, set_slot}
-use Rattle.rm_model.specs.Files.{page_at, slots_of}
+use Rattle.rm_model.specs.Pages.{used}
 use Rattle.rm_record.specs.declared.records.LogRecord.{LogRecord}
-use Rattle.rm_record.specs.declared.records.LogRecord.TheVariants.{Insert}
 use Rattle.rm_record.specs.declared.records.Logged.{Logged}
-use Rattle.rm_history.specs.Acts.{Act, History, changes, undoes, enters, commits, ends, marks, act_at, act_of, acts_onto, acts_of}
+use Rattle.rm_history.specs.Acts.{Act, History, changes, undoes, enters, commits, ends, marks, act_at, act_of, acts_onto, acts_of, lsn_of, newest_lsn}
+use Rattle.rm_history.specs.declared.TheConstants.{BATCH_HEADER}
 use Rattle.rm_history.specs.Contents.{page_of}
+use Rattle.rm_history.specs.Logs.{Batch, gate_of}
+use Rattle.rm_record.specs.Records.{spelling}
 use Rattle.rm_history.specs.Counts.{repeat_count}
-use Rattle.rm_history.specs.Batched.{IsBelow, AreBelow}
-use Rattle.rm_history.proofs.Appending.{acts_onto-append, acts_of-snoc, lsn_of-act_at}
-use Rattle.rm_restart.specs.declared.replay.ReplayRefused.{ReplayRefused}
-use Rattle.rm_restart.specs.declared.replay.ReplayRefused.TheVariants.{Misfit, NoMemory}
+use Rattle.rm_history.specs.Batched.{IsBelow, AreBelow, acts_after, acts_of_batches}
+use Rattle.rm_history.proofs.Appending.{acts_onto-append, acts_of-snoc, lsn_of-act_at, newest_of_batches}
+use Rattle.rm_history.proofs.Readings.{spelling_long}
 use Rattle.rm_restart.specs.Plain.{IsPlain, ArePlain}
 use Rattle.rm_restart.specs.declared.replay.Replay.{Replay}
 use Rattle.rm_restart.specs.Opening.{IsMisfit, HasNoMisfit, IsMisfitAt}
-use Rattle.rm_restart.specs.Replaying.{FitBefore, Replays, LacksPlace}
-use Rattle.rm_restart.specs.Refusals.{IfMisfit}
+use Rattle.rm_restart.specs.Replaying.{AreRising, FitBefore, Replays}
 
 -- a history has no more records that restart repeats than records
 repeats_few : (history : History) → repeat_count history ≤ length history
@@ -70,6 +63,32 @@ acts_of-around records i logged inside is =
     let rest = acts_onto-after (act_of logged ∷ acts_of prefix) back in
     (rest.0, ap acts_of split ∙ acts_onto-append [] prefix (logged ∷ back) ∙ rest.1)
 
+-- ---- LSNs
+
+rising_after : (history : History) (at : ℕ) (records : List LogRecord) → AreRising history → newest_lsn history < at → AreRising (acts_after history at records)
+rising_after history at [] rising below = rising
+rising_after history at (next ∷ records) rising below =
+    rising_after (act_at at next ∷ history) (at + length (spelling next)) records (rw (lsn_of-act_at at next) below, rising)
+    (omega (arith, lsn_of-act_at at next, spelling_long next))
+
+-- those of a log rise
+pub batches_rise : (batches : List Batch) → AreRising (acts_of_batches batches)
+batches_rise [] = tt
+batches_rise (batch ∷ batches) = rising_after (acts_of_batches batches) (gate_of batches + BATCH_HEADER) batch (batches_rise batches) (newest_of_batches batches)
+
+above_older : (more : History) (act : Act) (before : History) → AreRising (more ++ act ∷ before) → newest_lsn before < lsn_of act
+above_older [] act before rising = rising.0
+above_older (newer ∷ more) act before rising = above_older more act before rising.1
+
+-- so the next record's is above those so far
+pub next_above : (records : List Logged) (i : ℕ) (logged : Logged) → i < length records → logged ≡ get_or records i logged → AreRising (acts_of records)
+    → newest_lsn (acts_of (take i records)) < logged.lsn.0
+next_above records i logged inside is rising =
+    let around = acts_of-around records i logged inside is in
+    omega (arith, above_older around.0 (act_of logged) (acts_of (take i records)) (subst AreRising around.1 rising), lsn_of-act_at logged.lsn.0 logged.what)
+
+-- ---- misfits
+
 -- a record that names a page of the file, is plain, and leaves pages that fit is no misfit
 pub not_misfit : (pages : ℕ) (before : History) (act : Act) → IsBelow pages act → IsPlain act
     → ((page : ℕ) → used (page_of (act ∷ before) page) ≤ CAPACITY) → IsMisfit pages before act → ⊥
@@ -84,48 +103,16 @@ no_misfits pages (act ∷ before) below plain fits fitted =
     (not_misfit pages before act below.0 plain.0 fits, no_misfits pages before below.1 plain.1 fitted.0 fitted.1)
 
 -- a misfit so far is the first of all records
-pub misfit_of_all : (pages : ℕ) (records : List Logged) (i : ℕ) (logged : Logged) (replay : Replay) (refused : ReplayRefused) → i < length records → logged ≡ get_or records i logged
-    → Replays pages (acts_of (take i records)) replay
-    → IfMisfit refused (λ at. (at ≡ logged.lsn) × IsMisfit pages (acts_of (take i records)) (act_of logged))
-    → IfMisfit refused (λ at. IsMisfitAt pages (acts_of records) at.0)
-misfit_of_all pages records i logged replay (Misfit at) inside is replays misfit =
+pub misfit_of_all : (pages : ℕ) (records : List Logged) (i : ℕ) (logged : Logged) (replay : Replay) → i < length records → logged ≡ get_or records i logged
+    → Replays pages (acts_of (take i records)) replay → IsMisfit pages (acts_of (take i records)) (act_of logged) → IsMisfitAt pages (acts_of records) logged.lsn.0
+misfit_of_all pages records i logged replay inside is replays misfit =
     let around = acts_of-around records i logged inside is in
     record {
       more = around.0;
       act = act_of logged;
       before = acts_of (take i records);
       split = around.1;
-      place = (λ j. (misfit.0 j).0) ∙ sym (lsn_of-act_at logged.lsn.0 logged.what);
-      misfit = misfit.1;
+      place = sym (lsn_of-act_at logged.lsn.0 logged.what);
+      misfit = misfit;
       first = no_misfits pages (acts_of (take i records)) replays.below replays.plain replays.fits replays.fitted;
     }
-misfit_of_all pages records i logged replay NoMemory inside is replays misfit = tt
-
--- a row that has no place there makes its insert a misfit
-lacks_place : (pages : ℕ) (history : History) (replay : Replay) (lsn : ℕ) (txn : TxnId) (under : Lsn) (rid : Rid) (need : ℕ) (row : List ℕ) → Replays pages history replay
-    → LacksPlace (slots_of replay.pages.items) rid row → IsMisfit pages history (act_at lsn (Insert txn under rid need row))
-lacks_place pages history replay lsn txn under rid need row replays (inl outside) = inl (λ below. omega (arith, below, outside, replays.count))
-lacks_place pages history replay lsn txn under rid need row replays (inr over) = elim (cases_lt rid.page pages) [
-  | inl inside ↦
-      let there : page_of (act_at lsn (Insert txn under rid need row) ∷ history) rid.page ≡ set_slot (page_at (slots_of replay.pages.items) rid.page) rid.slot (Row row) =
-      rw (eq-eqb rid.page rid.page refl) (ap (λ (slots : List Slot). set_slot slots rid.slot (Row row)) (sym (replays.pages_are rid.page inside))) in
-      inr (inr (rid.page, subst (λ (slots : List Slot). CAPACITY < used slots) (sym there) over))
-  | inr past ↦ inl (λ below. omega (arith, below, past))
-]
-
-insert_misfit : (pages : ℕ) (history : History) (replay : Replay) (refused : ReplayRefused) (lsn : Lsn) (txn : TxnId) (under : Lsn) (rid : Rid) (need : ℕ) (row : List ℕ) → Replays pages history replay
-    → IfMisfit refused (λ at. (at ≡ lsn) × LacksPlace (slots_of replay.pages.items) rid row)
-    → IfMisfit refused (λ at. (at ≡ lsn) × IsMisfit pages history (act_at lsn.0 (Insert txn under rid need row)))
-insert_misfit pages history replay (Misfit at) lsn txn under rid need row replays found =
-    (found.0, lacks_place pages history replay lsn.0 txn under rid need row replays found.1)
-insert_misfit pages history replay NoMemory lsn txn under rid need row replays found = tt
-
-pub insert_misfits : {T : Type 0} (pages : ℕ) (history : History) (replay : Replay) (result : Result T ReplayRefused) (logged : Logged) (txn : TxnId) (under : Lsn) (rid : Rid) (need : ℕ) (row given : List ℕ)
-    → Replays pages history replay → logged.what ≡ Insert txn under rid need row → given ≡ row
-    → IfErr result (λ refused. IfMisfit refused (λ at. (at ≡ logged.lsn) × LacksPlace (slots_of replay.pages.items) rid given))
-    → IfErr result (λ refused. IfMisfit refused (λ at. (at ≡ logged.lsn) × IsMisfit pages history (act_of logged)))
-insert_misfits pages history replay (Ok done) logged txn under rid need row given replays is same found = tt
-insert_misfits pages history replay (Err refused) logged txn under rid need row given replays is same found =
-    subst (λ (what : LogRecord). IfMisfit refused (λ at. (at ≡ logged.lsn) × IsMisfit pages history (act_at logged.lsn.0 what))) (sym is)
-    (insert_misfit pages history replay refused logged.lsn txn under rid need row replays
-    (subst (λ (r : List ℕ). IfMisfit refused (λ at. (at ≡ logged.lsn) × LacksPlace (slots_of replay.pages.items) rid r)) same found))

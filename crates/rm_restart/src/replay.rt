@@ -1,21 +1,21 @@
 //! Replaying the records of a log into the pages of a file.
 
-ghost use Rattle.std.specs.Prelude.{◌≡◌, ℕ, ◌^◌, ◌<◌, ◌≤◌, [], ◌∷◌, length, replicate, IfOk, OnOk, IfErr, IfSome, IfNone};
+ghost use Rattle.std.specs.Prelude.{◌≡◌, ℕ, ◌+◌, ◌^◌, ◌<◌, ◌≤◌, [], ◌∷◌, IfOk, OnOk, IfErr, IfSome, IfNone};
 ghost use Rattle.rm_types.specs.declared.numbers.Lsn.{Lsn as Lsns};
-ghost use Rattle.rm_types.specs.declared.slots.Slot.TheVariants as Slots;
-ghost use Rattle.rm_types.specs.declared.slots.TheConstants.{CAPACITY};
-ghost use Rattle.rm_model.specs.Pages.{used, set_slot};
-ghost use Rattle.rm_model.specs.Files.{page_at, set_row as with_row_set, slots_of};
+ghost use Rattle.rm_model.specs.Files.{slots_of};
 ghost use Rattle.rm_record.specs.declared.records.LogRecord.TheVariants as log;
 ghost use Rattle.rm_history.specs.Acts.{History, act_at, act_of, acts_of};
+ghost use Rattle.rm_apply.specs.declared.answers.ApplyRefused.TheVariants as apply;
+ghost use Rattle.rm_apply.specs.Redo.{ChangesPage};
 ghost use Rattle.rm_restart.specs.Opening.{IsMisfit, IsMisfitAt};
 ghost use Rattle.rm_restart.specs.Outcomes.{IsLeastOf, IsNone};
-ghost use Rattle.rm_restart.specs.Replaying.{Replays, LacksPlace};
+ghost use Rattle.rm_restart.specs.Replaying.{AreRising, HaveLsnsBelow, IsInsertAt, IsRedone, LacksPlace, Replays};
 ghost use Rattle.rm_restart.specs.Refusals.{IfMisfit};
 
+use rm_apply::{ApplyRefused, redo};
 use rm_page::{Page, empty_pages};
 use rm_record::{LogRecord, Logged};
-use rm_types::{CAPACITY, Lsn, NoMemory, Rid, TxnId};
+use rm_types::{Lsn, NoMemory, Rid, TxnId};
 use std::alloc::{AllocError, AllocFailed, Global};
 use std::collections::BTreeSet;
 
@@ -38,22 +38,19 @@ impl From<NoMemory> for ReplayRefused {
     }
 }
 
-// Sets the row at a row id.
-fn set_row(pages: &mut [Page], rid: Rid, row: &[u8], lsn: Lsn) -> Result<(), ReplayRefused>
-    ensures inside { OnOk result (rid.page < length (slots_of pages.old)) }
-    ensures fits { OnOk result (used (set_slot (page_at (slots_of pages.old) rid.page) rid.slot (Slots.Row row.now)) ≤ CAPACITY) }
-    ensures ok { OnOk result (slots_of pages.new ≡ with_row_set (slots_of pages.old) rid row.now) }
-    ensures misfit { IfErr result (λ refused. IfMisfit refused (λ at. (at ≡ lsn) × LacksPlace (slots_of pages.old) rid row.now)) }
+// Redoes a record on the page of its row id. No page has the record, or a later one.
+fn redo_on(pages: &mut [Page], rid: Rid, logged: &Logged) -> Result<(), ApplyRefused>
+    requires page { ChangesPage logged.now.what rid.page }
+    requires lacking { HaveLsnsBelow logged.now.lsn.0 pages.old }
+    ensures ok { OnOk result (IsRedone pages.old pages.new rid logged.now.what logged.now.lsn.0) }
+    ensures upto { OnOk result (HaveLsnsBelow (logged.now.lsn.0 + 1) pages.new) }
+    ensures unfit { IfErr result (λ refused. refused ≡ apply.Unfit → LacksPlace (slots_of pages.old) rid logged.now.what) }
 {
     let number = rid.page as usize;
     if number >= pages.len() {
-        return Err(ReplayRefused::Misfit { at: lsn });
+        return Err(ApplyRefused::Unfit);
     }
-    let page = &mut pages[number];
-    if page.used_with(rid.slot, row) > CAPACITY as usize {
-        return Err(ReplayRefused::Misfit { at: lsn });
-    }
-    page.set(rid.slot, row, lsn)?;
+    redo(&mut pages[number], &logged.what, logged.lsn)?;
     Ok(())
 }
 
@@ -70,7 +67,8 @@ pub struct Replay {
 impl Replay {
     // Before the first record.
     pub fn new(alloc: Global, pages: u32) -> Result<Replay, NoMemory>
-        ensures { IfOk result (Replays pages []) }
+        ensures ok { IfOk result (Replays pages []) }
+        ensures fresh { IfOk result (λ replay. HaveLsnsBelow 1 replay.pages.items) }
     {
         Ok(Replay {
             pages: empty_pages(alloc, pages)?,
@@ -89,16 +87,19 @@ impl Replay {
         Some(TxnId(*least))
     }
 
-    fn insert(&mut self, txn: TxnId, rid: Rid, row: &[u8], lsn: Lsn) -> Result<(), ReplayRefused>
-        requires { self.old.inserts < 2 ^ 63 }
-        ensures ok { (pages : ℕ) (history : History) (under : Lsns) (need : ℕ) → Replays pages history self.old
-            → OnOk result (Replays pages (act_at lsn.0 (log.Insert txn under rid need row.now) ∷ history) self.new) }
-        ensures misfit { IfErr result (λ refused. IfMisfit refused (λ at. (at ≡ lsn) × LacksPlace (slots_of self.old.pages.items) rid row.now)) }
+    fn insert(&mut self, txn: TxnId, rid: Rid, logged: &Logged) -> Result<(), ApplyRefused>
+        requires insert { IsInsertAt logged.now.what txn rid }
+        requires few { self.old.inserts < 2 ^ 63 }
+        requires lacking { HaveLsnsBelow logged.now.lsn.0 self.old.pages.items }
+        ensures ok { (pages : ℕ) (history : History) → Replays pages history self.old → OnOk result (Replays pages (act_of logged.now ∷ history) self.new) }
+        ensures upto { OnOk result (HaveLsnsBelow (logged.now.lsn.0 + 1) self.new.pages.items) }
+        ensures unfit { (pages : ℕ) (history : History) → Replays pages history self.old
+            → IfErr result (λ refused. refused ≡ apply.Unfit → IsMisfit pages history (act_of logged.now)) }
     {
-        set_row(&mut self.pages, rid, row, lsn)?;
+        redo_on(&mut self.pages, rid, logged)?;
         match self.pending.insert(txn.0) {
             Ok(_) => {}
-            Err(_) => return Err(ReplayRefused::NoMemory),
+            Err(_) => return Err(ApplyRefused::NoMemory),
         }
         self.greatest = txn.0.max(self.greatest);
         self.inserts += 1;
@@ -106,24 +107,25 @@ impl Replay {
     }
 
     fn commit(&mut self, txn: TxnId)
-        ensures { (pages : ℕ) (history : History) (lsn : Lsns) → Replays pages history self.old
+        ensures ok { (pages : ℕ) (history : History) (lsn : Lsns) → Replays pages history self.old
             → Replays pages (act_at lsn.0 (log.Commit txn) ∷ history) self.new }
+        ensures pages { self.new.pages ≡ self.old.pages }
     {
         self.pending.remove(&txn.0);
         self.greatest = txn.0.max(self.greatest);
     }
 
-    // Replays one record.
-    fn apply(&mut self, logged: &Logged) -> Result<(), ReplayRefused>
-        requires { self.old.inserts < 2 ^ 63 }
+    // Replays one record. No page has the record, or a later one.
+    fn apply(&mut self, logged: &Logged) -> Result<(), ApplyRefused>
+        requires few { self.old.inserts < 2 ^ 63 }
+        requires lacking { HaveLsnsBelow logged.now.lsn.0 self.old.pages.items }
         ensures ok { (pages : ℕ) (history : History) → Replays pages history self.old → OnOk result (Replays pages (act_of logged.now ∷ history) self.new) }
-        ensures misfit { (pages : ℕ) (history : History) → Replays pages history self.old
-            → IfErr result (λ refused. IfMisfit refused (λ at. (at ≡ logged.now.lsn) × IsMisfit pages history (act_of logged.now))) }
+        ensures upto { OnOk result (HaveLsnsBelow (logged.now.lsn.0 + 1) self.new.pages.items) }
+        ensures unfit { (pages : ℕ) (history : History) → Replays pages history self.old
+            → IfErr result (λ refused. refused ≡ apply.Unfit → IsMisfit pages history (act_of logged.now)) }
     {
         match &logged.what {
-            LogRecord::Insert { txn, rid, row, .. } => {
-                self.insert(*txn, *rid, row.as_slice(), logged.lsn)
-            }
+            LogRecord::Insert { txn, rid, .. } => self.insert(*txn, *rid, logged),
             LogRecord::Commit { txn } => {
                 self.commit(*txn);
                 Ok(())
@@ -133,19 +135,24 @@ impl Replay {
             | LogRecord::Compensate { .. }
             | LogRecord::Inventory { .. }
             | LogRecord::End { .. }
-            | LogRecord::Checkpoint { .. } => Err(ReplayRefused::Misfit { at: logged.lsn }),
+            | LogRecord::Checkpoint { .. } => Err(ApplyRefused::Unfit),
         }
     }
 }
 
 // Replays the records, the oldest of which comes first, into this many pages.
 pub fn replayed(alloc: Global, pages: u32, records: &[Logged]) -> Result<Replay, ReplayRefused>
+    requires { AreRising (acts_of records.now) }
     ensures ok { IfOk result (Replays pages (acts_of records.now)) }
     ensures misfit { IfErr result (λ refused. IfMisfit refused (λ at. IsMisfitAt pages (acts_of records.now) at.0)) }
 {
     let mut replay = Replay::new(alloc, pages)?;
     for logged in records {
-        replay.apply(logged)?;
+        match replay.apply(logged) {
+            Ok(()) => {}
+            Err(ApplyRefused::Unfit) => return Err(ReplayRefused::Misfit { at: logged.lsn }),
+            Err(ApplyRefused::NoMemory) => return Err(ReplayRefused::NoMemory),
+        }
     }
     Ok(replay)
 }

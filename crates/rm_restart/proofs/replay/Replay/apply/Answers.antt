@@ -2,14 +2,9 @@ use Rattle.std.proofs.Common.{◌∷◌, sym, subst}
 use Rattle.rm_record.specs.declared.records.LogRecord.{LogRecord}
 use Rattle.rm_history.specs.Acts.{act_at}
 use Rattle.rm_restart.specs.Replaying.{Replays}
-use Rattle.rm_restart.proofs.Misfits.{insert_misfits}
 use Rattle.rm_restart.proofs.replay.Replay.apply.Goals as goal
 
 pub returns-in-Commit-clause-ok : goal.returns-in-Commit-clause-ok
 returns-in-Commit-clause-ok c = λ pages history replays.
     subst (λ (what : LogRecord). Replays pages (act_at c.args.logged.now.lsn.0 what ∷ history) c.commit.new.self) (sym c.in-Commit.is)
-    (c.commit.ensures pages history c.args.logged.now.lsn replays)
-
-pub returns-in-Insert-clause-misfit : goal.returns-in-Insert-clause-misfit
-returns-in-Insert-clause-misfit c = λ pages history replays.
-    insert_misfits pages history c.args.self.now c.insert.result c.args.logged.now c.in-Insert.txn c.in-Insert.under c.in-Insert.rid c.in-Insert.need _ _ replays c.in-Insert.is c.as_slice.ensures.value c.insert.ensures.misfit
+    (c.commit.ensures.ok pages history c.args.logged.now.lsn replays)

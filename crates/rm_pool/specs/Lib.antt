@@ -1,0 +1,3 @@
+pub mod Journals
+pub mod Frames
+pub mod Stores
