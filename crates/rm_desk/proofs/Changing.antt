@@ -1,7 +1,7 @@
 -- The tables stand for the sessions after a change of a slot.
-use Rattle.rm_desk.proofs.Names.{◌≡◌, ℕ, ◌+◌, ◌-◌, ◌<◌, ◌↔◌, inl, inr, false, List, ◌∷◌, Option, Some, None, option_map, slice_set, refl, sym, ap, subst, ◌∙◌}
+use Rattle.rm_desk.proofs.Names.{◌≡◌, ℕ, ◌+◌, ◌-◌, ◌<◌, ◌↔◌, inl, inr, false, List, ◌∷◌, Option, option_map, slice_set, refl, sym, ap, ◌∙◌}
 use Rattle.rm_desk.proofs.Names.{arith, nat_tests, cases_eq, eq-eqb, ne_eqb, Lsn, MAX_SESSIONS, row_length, sum_below-same, Change, History, changes, need_of}
-use Rattle.rm_desk.proofs.Names.{need_for, FitsOn, pending_of, need_of-change, need_of-change_other, pending_on-change, pending-change, pending-change_other}
+use Rattle.rm_desk.proofs.Names.{FitsOn, pending_of, need_of-change, need_of-change_other, pending_on-change, pending-change, pending-change_other}
 use Rattle.rm_desk.proofs.Names.{staged, Seat, seat_at, Reserved, need_in, HasEntry, with_need, HasRoom, IsOther, Txn, Table, txn_of, ChangesOnly, HasId}
 use Rattle.rm_desk.proofs.Names.{after_push, Stage, stage_of, Sessions, is_over, seat_from, stage_at, goes, logged, IsOn, Accounts}
 use Rattle.rm_desk.specs.Desks.{Stands}

@@ -1,7 +1,7 @@
 -- The entries of rm_locks stand for the machine's grants.
 use Rattle.rm_desk.proofs.Names.{◌≡◌, ◌≤◌, ℕ, ◌↔◌, ◌⊎◌, inl, inr, Bool, true, false, IsTrue, if◌then◌else◌, eqb, List, [], ◌∷◌, Option, Some, None, is_some}
-use Rattle.rm_desk.proofs.Names.{unwrap_or, IfSome, IfNone, refl, sym, subst, arith, nat_tests, eqb-true, cond_both, eq-eqb, false≢true, Mode, Shared}
-use Rattle.rm_desk.proofs.Names.{Exclusive, Rid, TxnId, MAX_SLOT, HasGrant, HoldsAlone, Blocks, has_it, joined, released, Grant, joined_any, joined_alone}
+use Rattle.rm_desk.proofs.Names.{unwrap_or, IfSome, IfNone, refl, subst, arith, nat_tests, cond_both, false≢true, Mode}
+use Rattle.rm_desk.proofs.Names.{Rid, TxnId, MAX_SLOT, HasGrant, HoldsAlone, Blocks, has_it, joined, released, Grant, joined_any, joined_alone}
 use Rattle.rm_desk.proofs.Names.{more-released, released-less, alone_has, LockTable, mode_in, entry_in, Holds, is_exclusive, IsLeastBlocker, is_same_lock}
 use Rattle.rm_desk.proofs.Names.{raised, Grants, Releases, same_lock, is_alone, IsFree, IsRefused, IsLeastHolder, Stands}
 use Rattle.rm_locks.specs.LockTable.{HoldsAlone as IsExclusive, IsFree as IsFreeIn, Blocks as BlocksIn}

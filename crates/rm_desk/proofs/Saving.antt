@@ -1,7 +1,7 @@
 -- The tables stand for the sessions after a savepoint is set, and gone back to.
-use Rattle.rm_desk.proofs.Names.{◌≡◌, ℕ, if◌then◌else◌, find, ◌+◌, ◌<◌, inl, inr, false, List, [], ◌∷◌, Option, Some, None, IsSome, IfSome, option_map}
-use Rattle.rm_desk.proofs.Names.{slice_set, refl, sym, ap, ◌∙◌, arith, nat_tests, ForSome, cases_eq, eq-eqb, ne_eqb, false≢true, Lsn, MAX_SESSIONS}
-use Rattle.rm_desk.proofs.Names.{pending_of, last_of, Seat, HasNumber, dropped, upto, value_at, idle, rolls, returns, seat_at, Reserved, Savepoint, Txn}
+use Rattle.rm_desk.proofs.Names.{◌≡◌, ℕ, if◌then◌else◌, find, ◌+◌, ◌<◌, false, List, [], ◌∷◌, Option, Some, IsSome, IfSome, option_map}
+use Rattle.rm_desk.proofs.Names.{slice_set, refl, arith, nat_tests, ForSome, Lsn, MAX_SESSIONS}
+use Rattle.rm_desk.proofs.Names.{pending_of, last_of, dropped, upto, idle, rolls, returns, seat_at, Reserved, Savepoint, Txn}
 use Rattle.rm_desk.proofs.Names.{is_of, without, place_of, back_to, Table, txn_of, ChangesOnly, after_save, after_back, Stage, Idle, Rolls, Sessions, is_over}
 use Rattle.rm_desk.proofs.Names.{saves_of, seat_from, stage_at, saved, rewound, IsSavepoint, Accounts}
 use Rattle.rm_core.specs.State as state

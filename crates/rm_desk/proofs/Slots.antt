@@ -1,6 +1,6 @@
 -- The slot for a new row, as it is looked for.
-use Rattle.rm_desk.proofs.Names.{nat_tests, arith, ◌≡◌, ◌≢◌, ◌≤◌, ◌<◌, ◌+◌, ℕ, ◌↔◌, inl, inr, Bool, true, false, IsTrue, IsSome, List, subst, arith, cases_lt, cases_eq}
-use Rattle.rm_desk.proofs.Names.{false≢true, Rid, Slot, Vacant, row_at, slot_at, IsHeld, Grant}
+use Rattle.rm_desk.proofs.Names.{nat_tests, arith, ◌≡◌, ◌≤◌, ◌<◌, ◌+◌, ℕ, IsSome, List, arith}
+use Rattle.rm_desk.proofs.Names.{Slot, Vacant, row_at, slot_at}
 
 -- the least slots are taken or held, up to the next vacant one
 pub least_next : (slots : List Slot) (IsTaken : ℕ → Type 0) (slot next : ℕ) → ((lower : ℕ) → lower < slot → slot_at slots lower ≡ Vacant → (IsTaken lower → ⊥) → ⊥)

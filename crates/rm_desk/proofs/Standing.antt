@@ -1,10 +1,10 @@
 -- The tables stand for the sessions after a move of one of them.
 use Rattle.rm_desk.proofs.Names.{◌≡◌, ℕ, ◌+◌, ◌<◌, ◌≤◌, ◌⊎◌, ◌↔◌, option_map, inl, inr, if◌then◌else◌, ◌==◌, List, [], ◌∷◌, length, slice_set, Option, Some}
-use Rattle.rm_desk.proofs.Names.{None, IsSome, IfSome, refl, sym, ap, subst, ◌∙◌, arith, nat_tests, cases_eq, cases_lt, ne_eqb, false≢true, length-set}
+use Rattle.rm_desk.proofs.Names.{None, IsSome, IfSome, refl, sym, ap, subst, ◌∙◌, arith, nat_tests, cases_eq, cases_lt, length-set}
 use Rattle.rm_desk.proofs.Names.{get_or-set_same, get_or-set_other, get_or_past, Lsn, TxnId, MAX_SESSIONS, sum_below, sum_below-one, sum_below-same, Change}
-use Rattle.rm_desk.proofs.Names.{Finish, History, changes, undoes, enters, commits, ends, marks, need_of, need_for, on_page, others_need, greatest_txn}
-use Rattle.rm_desk.proofs.Names.{pending-change_other, pending-undo_other, pending-commit, pending-commit_other, pending-end, pending-end_other, pending_of}
-use Rattle.rm_desk.proofs.Names.{last_of, staged, TXN_BYTES, bytes_for, owes_at, owed_by, Seat, seat_at, empty_seat, forces, finishes, Reserved, need_in}
+use Rattle.rm_desk.proofs.Names.{Finish, History, commits, ends, need_of, need_for, on_page, others_need, greatest_txn}
+use Rattle.rm_desk.proofs.Names.{pending-commit, pending-commit_other, pending-end, pending-end_other, pending_of}
+use Rattle.rm_desk.proofs.Names.{last_of, staged, TXN_BYTES, owes_at, owed_by, Seat, seat_at, empty_seat, forces, Reserved, need_in}
 use Rattle.rm_desk.proofs.Names.{HasEntry, with_need, Txn, Table, txn_of, owed_of, ChangesOnly, HasId, HaveOwnIds, after_commit, Stage, Idle, Forces}
 use Rattle.rm_desk.proofs.Names.{stage_of, Sessions, is_over, seat_from, stage_at, goes, seated, begun, committed, ended, owed_in, IsOn, Accounts}
 use Rattle.rm_core.specs.State as state

@@ -1,6 +1,6 @@
 -- The tables stand for the sessions after a change is undone.
-use Rattle.rm_desk.proofs.Names.{◌≡◌, ℕ, ◌+◌, ◌≤◌, ◌<◌, inl, inr, false, List, [], ◌∷◌, Option, Some, None, IfSome, option_map, slice_set, refl, sym, ap}
-use Rattle.rm_desk.proofs.Names.{subst, ◌∙◌, arith, nat_tests, ForSome, cases_eq, Lsn, TxnId, MAX_SESSIONS, row_length, Change, Undo, History, undoes}
+use Rattle.rm_desk.proofs.Names.{◌≡◌, ℕ, ◌+◌, ◌≤◌, ◌<◌, inl, false, List, [], ◌∷◌, Option, Some, None, IfSome, option_map, slice_set, refl, sym, ap}
+use Rattle.rm_desk.proofs.Names.{subst, ◌∙◌, arith, nat_tests, ForSome, Lsn, TxnId, MAX_SESSIONS, row_length, Change, Undo, History, undoes}
 use Rattle.rm_desk.proofs.Names.{AreChained, need_of, need_for, on_page, FitsOn, pending_of, NeedsAreLogged, IsInOrder, undo_for, last_is_of, needs_go_on}
 use Rattle.rm_desk.proofs.Names.{need_of-undo_other, pending_of-undo, pending_on-undo, pending_is_chained, pending-undo_other, staged, TXN_BYTES, bytes_for}
 use Rattle.rm_desk.proofs.Names.{Seat, seat_at, Reserved, need_in, HasEntry, HasRoom, Txn, OWED, Table, txn_of, ChangesOnly, HasId, HaveOwnIds, after_pop}
