@@ -1,7 +1,7 @@
 //! What comes of a turn.
 
 use crate::operations::Reply;
-use rm_types::{Fault, TxnId};
+use rm_types::TxnId;
 
 /// The answer of a turn.
 #[derive(Debug, Drop)]
@@ -14,12 +14,8 @@ pub enum Turn {
     Again { by: u8 },
     /// The younger transaction `holder` has the row locked; nothing changed.
     Waits { holder: TxnId },
-    /// The volume failed or is damaged, now or in an earlier turn.
-    Stopped { fault: Fault },
     /// The log has no room for the operation, which is closed; the log ends at `end`.
     LogFull { end: u64 },
     /// The last transaction id was given.
     TxnsSpent { last: TxnId },
-    /// Memory ran out; nothing changed.
-    NoMemory,
 }

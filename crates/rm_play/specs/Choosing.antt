@@ -160,12 +160,12 @@ rolling s k lsn aim [] = turns k (reaching aim lsn)
 rolling s k lsn aim (last ∷ rest) = if nat_lt (target_of aim) last.lsn then latching_at s k last.rid.page else turns k (reaching aim lsn)
 
 abbrev pub preparing : Setting → State → ℕ → Aim → List Change → Turn
-preparing m s lsn aim [] = finish
+preparing m s lsn aim [] = reaching aim lsn
 preparing m s lsn aim (last ∷ rest) =
     if entry_of s.history last.rid.page == category_after m.format s.history last then prepared aim last else prepare aim last lsn
 
 abbrev pub compensating : ℕ → Aim → List Change → Turn
-compensating lsn aim [] = finish
+compensating lsn aim [] = reaching aim lsn
 compensating lsn aim (last ∷ rest) = compensate aim last lsn
 
 -- outside a transaction

@@ -1,0 +1,4 @@
+pub mod Views
+pub mod Stages
+pub mod Making
+pub mod Looking
