@@ -115,7 +115,7 @@ stood v k stage = record v { state = with_effect v.state k (goes_to v.state (sta
 
 abbrev pub granted : View → ℕ → Rid → Bool → Stage → View
 granted v k rid alone stage = record v {
-  state = with_effect v.state k (record (goes_to v.state (staged (seat_of v k) stage)) { grants = with_grant v.state (seat_of v k).txn rid alone })
+  state = with_effect v.state k (record (goes_to v.state (staged (seat_of v k) stage)) { grants = with_grant v.state (seat_of v k).txn rid alone });
 }
 
 -- before the undo of the newest pending change its page's entry is entered; it is undone

@@ -8,7 +8,7 @@ ghost use Rattle.rm_ops.specs.Making.{Makes};
 ghost use Rattle.rm_ops.specs.Looking.{IsOpen};
 
 use crate::ending::commit;
-use crate::inserting::scan;
+use crate::inserting::insert;
 use crate::latching::{close, refuse_room};
 use crate::locking::lock;
 use crate::stages::{Aim, Asked, Stage};
@@ -82,7 +82,7 @@ pub(crate) fn ask<T: Tables>(tables: &mut T, k: u8) -> Result<Turn, StoreFault>
     match tables.asked(k) {
         Asked::Unbound => Ok(Turn::Done(Reply::Unbound)),
         Asked::Begin => Ok(Turn::Done(Reply::Skipped)),
-        Asked::Insert(_) => scan(tables, k, 0),
+        Asked::Insert(_) => insert(tables, k),
         Asked::Read(rid) => lock(tables, k, rid, Mode::Shared, Stage::Reads(rid)),
         Asked::Update(rid, _) | Asked::Delete(rid) => {
             lock(tables, k, rid, Mode::Exclusive, Stage::Alters(rid))

@@ -152,7 +152,12 @@ fn made_reply<T: Tables>(tables: &T, k: u8, made: Made, rid: Rid) -> Reply
 }
 
 /// Enters the page's category in the inventory, where the change made its entry wrong. The operation is over.
-pub(crate) fn settle<T: Tables>(tables: &mut T, k: u8, made: Made, rid: Rid) -> Result<Turn, StoreFault>
+pub(crate) fn settle<T: Tables>(
+    tables: &mut T,
+    k: u8,
+    made: Made,
+    rid: Rid,
+) -> Result<Turn, StoreFault>
     requires open { IsOpen (T.view tables.old) k }
     requires inside { rid.page < (T.view tables.old).setting.pages }
     ensures makes { let v = T.view tables.old in let made_it = outcome_with (op_at v k) made rid in

@@ -2,7 +2,7 @@
 
 ghost use Rattle.std.specs.Prelude.{◌≡◌, ℕ, ◌+◌, ◌<◌, ◌≤◌, ◌==◌, if◌then◌else◌, true, length, IfErr};
 ghost use Rattle.rm_types.specs.declared.numbers.TheConstants.{MAX_PAGES};
-ghost use Rattle.rm_core.specs.Names.{turns, insert, try as tries_it, try_last, tries, part_end};
+ghost use Rattle.rm_core.specs.Names.{turns, insert as inserts, try as tries_it, try_last, tries, part_end};
 ghost use Rattle.rm_play.specs.Choosing.{found_at, scanning, trying, if_room, slot_for, row_fits};
 ghost use Rattle.rm_ops.specs.Views.{HasSession, seat_of, op_at};
 ghost use Rattle.rm_ops.specs.Stages.{row_in};
@@ -22,6 +22,20 @@ fn row_len<T: Tables>(tables: &T, k: u8) -> u16
     ensures { result ≡ length (row_in (op_at (T.view tables.now) k)) }
 {
     tables.asked(k).row_len()
+}
+
+/// The first turn of an insert: a scan from page 0.
+pub(crate) fn insert<T: Tables>(tables: &mut T, k: u8) -> Result<Turn, StoreFault>
+    requires { IsOpen (T.view tables.old) k }
+    ensures makes { let v = T.view tables.old in Makes v (turns k (scanning v.setting v.state (row_in (op_at v k)) 0)) result (T.view tables.new) }
+    ensures since { T.since tables.old tables.new }
+    ensures cause { IfErr result (T.fails tables.new) }
+{
+    if tables.pages() == 0 {
+        Ok(close(tables, k, Reply::NoSpace))
+    } else {
+        scan(tables, k, 0)
+    }
 }
 
 // The end of the part of a file of that many pages that a scan from there looks at: of the pages of one block of the inventory.
@@ -96,7 +110,7 @@ fn put<T: Tables>(tables: &mut T, k: u8, rid: Rid) -> Result<Turn, StoreFault>
     requires inside { rid.page < (T.view tables.old).setting.pages }
     requires slot { rid.slot ≡ slot_for (T.view tables.old).state (seat_of (T.view tables.old) k) rid.page }
     requires fits { row_fits (T.view tables.old).state (seat_of (T.view tables.old) k) rid.page rid.slot (length (row_in (op_at (T.view tables.old) k))) ≡ true }
-    ensures makes { let v = T.view tables.old in Makes v (if_room v.setting v.state k (T.offset tables.old) (insert (row_in (op_at v k)) rid (T.offset tables.old))) result (T.view tables.new) }
+    ensures makes { let v = T.view tables.old in Makes v (if_room v.setting v.state k (T.offset tables.old) (inserts (row_in (op_at v k)) rid (T.offset tables.old))) result (T.view tables.new) }
     ensures since { T.since tables.old tables.new }
     ensures cause { IfErr result (T.fails tables.new) }
 {
@@ -115,7 +129,8 @@ fn pass_page<T: Tables>(tables: &mut T, k: u8, page: u32) -> Turn
     ensures makes { let v = T.view tables.old in (slot : ℕ) → Makes v (turns k (if page + 1 == v.setting.pages then try_last (row_in (op_at v k)) page slot else tries_it (row_in (op_at v k)) page slot)) (Ok result) (T.view tables.new) }
     ensures since { T.since tables.old tables.new }
 {
-    if page + 1 == tables.pages() {
+    let pages = tables.pages();
+    if page + 1 == pages {
         close(tables, k, Reply::NoSpace)
     } else {
         tables.stand(k, Stage::Seeks(page + 1));

@@ -1,6 +1,6 @@
 //! Latches of pages, and the ends of operations that need none.
 
-ghost use Rattle.std.specs.Prelude.{◌≡◌};
+ghost use Rattle.std.specs.Prelude.{◌≡◌, false};
 ghost use Rattle.rm_core.specs.Names.{idle, latched, log_full, answered};
 ghost use Rattle.rm_play.specs.Choosing.{latching_at};
 ghost use Rattle.rm_ops.specs.Views.{HasSession, IsActive, IsOfFile, seat_of, op_at, is_over, stood};

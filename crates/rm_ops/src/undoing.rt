@@ -81,7 +81,12 @@ pub(crate) fn prepare<T: Tables>(tables: &mut T, k: u8, aim: Aim) -> Result<Turn
 
 // Enters the category for the undo of that change.
 #[tactic(auto, using(crate::proofs::Looking::prepared_makes, crate::proofs::Looking::prepare_makes))]
-fn prepare_entry<T: Tables>(tables: &mut T, k: u8, aim: Aim, last: LastChange) -> Result<Turn, StoreFault>
+fn prepare_entry<T: Tables>(
+    tables: &mut T,
+    k: u8,
+    aim: Aim,
+    last: LastChange,
+) -> Result<Turn, StoreFault>
     requires open { IsOpen (T.view tables.old) k }
     requires last { last_in (pending_at (T.view tables.old) k) ≡ Some last }
     requires inside { last.page < (T.view tables.old).setting.pages }
