@@ -30,7 +30,7 @@ use Rattle.rm_wal.specs.Attaching.{Attaches}
 use Rattle.rm_wal.specs.Flushing.{Done, FlushStep, Flushing, HasEither, written_tail}
 use Rattle.rm_wal.specs.Lookups.{HasNoneAt, StandsInTail, HasNoneInTail}
 use Rattle.rm_wal.specs.Tails.{LogValue, end_of}
-use Rattle.rm_pool.specs.Journals.{JournalValue, IsBetween, Since, Known, Standing, flushed, gate_after, IsIn, IsRecordAt, HasNoRecordAt}
+use Rattle.rm_pool.specs.Journals.{JournalValue, IsBetween, Since, Known, Begins, Standing, flushed, gate_after, IsIn, IsRecordAt, HasNoRecordAt}
 
 -- ---- images
 
@@ -53,20 +53,25 @@ both_left one other = record {
 
 pub stands_at_opening : {f : Facts} (log : LogValue) (records : List Logged) → ((c : Image) → f.left_since f.moment c → f.may_leave c)
     → ((c : Image) → f.may_leave c → f.models_content) → IsDurable Log f.content f.may_leave
-    → Attaches f.models_content (f.content Log) log.limit log records → Standing f f log (acts_of records) (acts_of records) true
+    → Attaches f.models_content (f.content Log) log.limit log records → Standing f f log (acts_of records) (acts_of records) (acts_of records) true
 stands_at_opening {f} log records only_now only_modelled synced attached =
     let has : (c : Image) → f.may_leave c → HasLog (c Log) attached.batches =
     λ c now. subst (λ (area : Bytes). HasLog area attached.batches) (sym (synced.each c now)) (attached.has_log (only_modelled c now)) in
+    let between : (c : Image) → f.may_leave c → IsBetween (acts_of records) (acts_of records) c = λ c now. record {
+      front = record { batches = attached.batches; has = has c now; newer = []; is = sym attached.history_is };
+      more = [];
+      kept = attached.history_is;
+    } in
     record {
       since = record {
         modelled = λ models. models;
         content = keeps_all f.content;
         crash = record { each = λ c now. (c, now, keeps_all c) };
-        time = started _ _ _ (λ c left.
-            let now = only_now c left in
-            record { others = (c, now, keeps_all c); front = record { batches = attached.batches; has = has c now; newer = []; is = sym attached.history_is } });
+        time = started _ _ _ (λ c left. record { others = (c, only_now c left, keeps_all c); between = between c (only_now c left) });
         counts = counts_none;
       };
+      grown = ([], refl);
+      left = between;
       known = λ sure. record {
         batches = attached.batches;
         tail = [];
@@ -107,9 +112,22 @@ known_appended {now} {log} {history} {durable} next lsn is lsn_is known =
       synced = known.synced;
     }
 
-pub stands_appended : {opened now : Facts} {log : LogValue} {history durable : History} {is_known : Bool} (next : LogRecord) (lsn : ℕ) → IsRecord next
-    → lsn ≡ end_of log → Standing opened now log history durable is_known
-    → Standing opened now (record log { tail = log.tail ++ spelling next }) (act_at lsn next ∷ history) durable is_known
+-- an image between two histories is so after one more record
+with_newest : {durable history : History} {c : Image} (act : Act) → IsBetween durable history c → IsBetween durable (act ∷ history) c
+with_newest act between = record {
+  front = record {
+    batches = between.front.batches;
+    has = between.front.has;
+    newer = act ∷ between.front.newer;
+    is = ap (λ (h : History). act ∷ h) between.front.is;
+  };
+  more = between.more;
+  kept = between.kept;
+}
+
+pub stands_appended : {opened now : Facts} {log : LogValue} {first history durable : History} {is_known : Bool} (next : LogRecord) (lsn : ℕ) → IsRecord next
+    → lsn ≡ end_of log → Standing opened now log first history durable is_known
+    → Standing opened now (record log { tail = log.tail ++ spelling next }) first (act_at lsn next ∷ history) durable is_known
 stands_appended next lsn is lsn_is stands =
     let since = stands.since in
     record {
@@ -117,24 +135,18 @@ stands_appended next lsn is lsn_is stands =
         modelled = since.modelled;
         content = since.content;
         crash = since.crash;
-        time = weaker since.time (λ c left. record {
-          others = left.others;
-          front = record {
-            batches = left.front.batches;
-            has = left.front.has;
-            newer = act_at lsn next ∷ left.front.newer;
-            is = ap (λ (h : History). act_at lsn next ∷ h) left.front.is;
-          };
-        });
+        time = weaker since.time (λ c left. record { others = left.others; between = with_newest (act_at lsn next) left.between });
         counts = since.counts;
       };
+      grown = stands.grown;
+      left = λ c now. with_newest (act_at lsn next) (stands.left c now);
       known = λ sure. known_appended next lsn is lsn_is (stands.known sure);
     }
 
 -- ---- what is known
 
 -- it is known of the fields of a journal
-pub known_of : {opened now : Facts} {log : LogValue} {history durable : History} {V : Type 0} {it value : JournalValue V} → Standing opened now log history durable it.is_known
+pub known_of : {opened now : Facts} {log : LogValue} {first history durable : History} {V : Type 0} {it value : JournalValue V} → Standing opened now log first history durable it.is_known
     → it ≡ value → IsTrue value.is_known → Known now log history durable
 known_of stands is sure = stands.known (ap (λ (journal : JournalValue _). journal.is_known) is ∙ sure)
 
@@ -178,6 +190,16 @@ module _ {now : Facts} {log : LogValue} {history durable : History} (known : Kno
   pub read_between : {new : Facts} → Reading false true now new → AllLeft now new (IsBetween durable history)
   read_between reads = weaker reads.time between_now
 
+-- ---- what was there at the opening
+
+-- what began with what is durable began with that
+pub from_first : {first durable history : History} {c : Image} → Begins first durable → IsBetween durable history c → IsBetween first history c
+from_first {first} grown between = record {
+  front = between.front;
+  more = between.more ++ grown.0;
+  kept = between.kept ∙ ap (λ (h : History). between.more ++ h) grown.1 ∙ sym (append_assoc between.more grown.0 first);
+}
+
 -- ---- flushes
 
 -- the log after one that was done
@@ -197,23 +219,24 @@ all_durable {log = log} {durable = durable} known is =
     let none : known.tail ≡ [] = records_once known.tail [] known.tails.records tt (sym known.tails.spelled ∙ is) in
     sym (ap (acts_after durable (log.batch + BATCH_HEADER)) none) ∙ known.history_is
 
-module _ {opened old new : Facts} {log : LogValue} {history durable : History} (known : Known old log history durable) (since : Since opened old history)
-    (flush : Flushing log old new) where
+module _ {opened old new : Facts} {log : LogValue} {first history durable : History} (known : Known old log history durable)
+    (since : Since opened old first history) (grown : Begins first durable) (flush : Flushing log old new) where
   comes : (c : Image) → ComesBy (FlushStep log.batch (written_tail log.tail)) old.may_leave c → ComesBy (KeepsOthers Log) opened.may_leave c
   comes c (d, left, step) = let before = since.crash.each d left in (before.0, before.1, keeps_then _ _ _ before.2 step.others)
 
-  since_flushed : Since opened new history
+  since_flushed : Since opened new first history
   since_flushed = record {
     modelled = λ models. since.modelled (flush.writes.modelled models);
     content = keeps_then _ _ _ since.content flush.writes.content;
     crash = record { each = λ c now. comes c (flush.writes.crash.each c now) };
-    time = joined since.time (weaker (both_left flush.writes.time (flush_between known flush)) (λ c left. record { others = comes c left.0; front = left.1.front }));
+    time = joined since.time (weaker (both_left flush.writes.time (flush_between known flush)) (λ c left. record { others = comes c left.0; between = from_first grown left.1 }));
     counts = counts_then since.counts (counts_as flush.writes.counts);
   }
 
   -- it failed
-  pub stands_lost : {lost : LogValue} → Standing opened new lost history durable false
-  stands_lost = record { since = since_flushed; known = λ sure. cc }
+  pub stands_lost : {lost : LogValue} → ((c : Image) → new.may_leave c → new.left_since old.moment c) → Standing opened new lost first history durable false
+  stands_lost counts_now =
+      record { since = since_flushed; grown = grown; left = λ c now. (flush_between known flush).each c (counts_now c now); known = λ sure. cc }
 
   -- it was done
   module _ (done : Done log old new) (range : 0 < length log.tail → IsInRange log.batch (length log.tail)) (same : log.tail ≡ [] → Known new log history durable) where
@@ -249,13 +272,23 @@ module _ {opened old new : Facts} {log : LogValue} {history durable : History} (
           synced = done.synced;
         }
 
-    pub stands_flushed : {is_known : Bool} → Standing opened new (flushed log) history history is_known
-    stands_flushed = record { since = since_flushed; known = λ sure. known_flushed log.tail refl }
+    pub stands_flushed : {is_known : Bool} → Standing opened new (flushed log) first history history is_known
+    stands_flushed =
+        let more = newer known in
+        record {
+          since = since_flushed;
+          grown = (
+            more.0 ++ grown.0,
+            more.1 ∙ ap (λ (h : History). more.0 ++ h) grown.1 ∙ sym (append_assoc more.0 grown.0 first),
+          );
+          left = between_now (known_flushed log.tail refl);
+          known = λ sure. known_flushed log.tail refl;
+        }
 
 -- ---- reads
 
-pub stands_read : {opened old new : Facts} {log : LogValue} {history durable : History} {is_known : Bool} → Known old log history durable
-    → Reading false true old new → Standing opened old log history durable is_known → Standing opened new log history durable is_known
+pub stands_read : {opened old new : Facts} {log : LogValue} {first history durable : History} {is_known : Bool} → Known old log history durable
+    → Reading false true old new → Standing opened old log first history durable is_known → Standing opened new log first history durable is_known
 stands_read {opened} known reads stands =
     let since = stands.since in
     record {
@@ -263,9 +296,11 @@ stands_read {opened} known reads stands =
         modelled = λ models. since.modelled (reads.modelled models);
         content = subst (KeepsOthers Log opened.content) (sym reads.content) since.content;
         crash = record { each = λ c now. since.crash.each c (reads.crash.each c now) };
-        time = joined since.time (weaker reads.time (λ c now. record { others = since.crash.each c now; front = (between_now known c now).front }));
+        time = joined since.time (weaker reads.time (λ c now. record { others = since.crash.each c now; between = from_first stands.grown (between_now known c now) }));
         counts = counts_then since.counts reads.counts;
       };
+      grown = stands.grown;
+      left = λ c now. stands.left c (reads.crash.each c now);
       known = λ sure. record {
         batches = known.batches;
         tail = known.tail;
@@ -285,7 +320,7 @@ stands_read {opened} known reads stands =
 -- ---- the end of the log
 
 -- a history ends where its newest record does,
-newest_end : (at : ℕ) (what : LogRecord) → lsn_of (act_at at what) + sizes.size_of (act_at at what) ≡ at + length (spelling what)
+pub newest_end : (at : ℕ) (what : LogRecord) → lsn_of (act_at at what) + sizes.size_of (act_at at what) ≡ at + length (spelling what)
 unfolding sizes.size_of
 newest_end at what = λ i. lsn_of-act_at at what i + length (spelling (record_of-act_at at what i))
 
@@ -297,7 +332,7 @@ records_end history at next (other ∷ records) =
     ∙ omega (arith, length-append (spelling next) (spelling_all (other ∷ records)))
 
 -- and after some batches at the gate
-batches_end : (batches : List Batch) → AreBatches batches → sizes.end_of (acts_of_batches batches) ≡ gate_of batches
+pub batches_end : (batches : List Batch) → AreBatches batches → sizes.end_of (acts_of_batches batches) ≡ gate_of batches
 batches_end [] are = refl
 batches_end ([] ∷ batches) are = absurd (omega (arith, are.1.range.some))
 batches_end ((next ∷ records) ∷ batches) are =
@@ -307,7 +342,7 @@ next_at_end : (history : History) (lsn : ℕ) → 0 < lsn → sizes.end_of histo
 next_at_end [] lsn some is = absurd (omega (arith, some, is))
 next_at_end (newest ∷ before) lsn some is = inl (sym is)
 
-next_at_gate : (history : History) (lsn : ℕ) → sizes.end_of history + BATCH_HEADER ≡ lsn → sizes.IsNext history lsn
+pub next_at_gate : (history : History) (lsn : ℕ) → sizes.end_of history + BATCH_HEADER ≡ lsn → sizes.IsNext history lsn
 next_at_gate [] lsn is = sym is ∙ omega arith
 next_at_gate (newest ∷ before) lsn is = inr (sym is)
 

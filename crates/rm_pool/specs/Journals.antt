@@ -14,26 +14,28 @@ use Rattle.rm_history.specs.Sizes.{IsNext}
 use Rattle.rm_wal.specs.Flushing.{Tails}
 use Rattle.rm_wal.specs.Tails.{LogValue, end_of}
 
--- The volume now and at the opening; the log in memory; what the records of the log do, those of its tail among them; how
--- much of that is durable; and whether that is known, since no flush has failed.
+-- The volume now and at the opening; the log in memory; what the records of the log do, those of its tail among them; those
+-- that were there at the opening; how much is durable; and whether that is known, since no flush has failed.
 pub record JournalValue (V : Type 0) : Type 0 where
   pub volume : V
   pub opened : V
   pub log : LogValue
   pub history : History
+  pub first : History
   pub durable : History
   pub is_known : Bool
 
 -- of this, what no memory holds
 pub record PastValue : Type 0 where
   pub history : History
+  pub first : History
   pub durable : History
   pub is_known : Bool
 
 -- all of it
 abbrev pub view_of : {V : Type 0} → (volume opened : V) → LogValue → PastValue → JournalValue V
 view_of volume opened log past =
-    record { volume = volume; opened = opened; log = log; history = past.history; durable = past.durable; is_known = past.is_known }
+    record { volume = volume; opened = opened; log = log; history = past.history; first = past.first; durable = past.durable; is_known = past.is_known }
 
 -- the log of the image has a history with which this one began
 pub record HasFront (history : History) (c : Image) : Type 0 where
@@ -48,18 +50,19 @@ pub record IsBetween (durable history : History) (c : Image) : Type 0 where
   pub more : History
   pub kept : acts_of_batches front.batches ≡ more ++ durable
 
--- an image of the opening with another log, which has a history with which this one began
-pub record IsLeft (opened : Image → Type 0) (history : History) (c : Image) : Type 0 where
+-- an image of the opening with another log, which has a history with which this one began, with all that was there at the
+-- opening
+pub record IsLeft (opened : Image → Type 0) (first history : History) (c : Image) : Type 0 where
   pub others : ComesBy (KeepsOthers Log) opened c
-  pub front : HasFront history c
+  pub between : IsBetween first history c
 
 -- What was done since the opening: area Log alone was written and read, and each image that a crash might have left at any
 -- moment has the history as far as it had come.
-pub record Since (opened now : Facts) (history : History) : Type 0 where
+pub record Since (opened now : Facts) (first history : History) : Type 0 where
   pub modelled : now.models_content → opened.models_content
   pub content : KeepsOthers Log opened.content now.content
   pub crash : Follows (KeepsOthers Log) opened.may_leave now.may_leave
-  pub time : AllLeft opened now (IsLeft opened.may_leave history)
+  pub time : AllLeft opened now (IsLeft opened.may_leave first history)
   pub counts : Counts false true opened now
 
 -- What is known while no flush has failed: the durable history is that of the batches of area Log, and the records of the
@@ -73,13 +76,20 @@ pub record Known (now : Facts) (log : LogValue) (history durable : History) : Ty
   pub history_is : acts_after durable (log.batch + BATCH_HEADER) tail ≡ history
   pub synced : IsDurable Log now.content now.may_leave
 
--- how a journal stands to its volume, as it was opened and as it is now
-pub record Standing (opened now : Facts) (log : LogValue) (history durable : History) (is_known : Bool) : Type 0 where
-  pub since : Since opened now history
+-- one history began with another
+abbrev pub Begins : History → History → Type 0
+Begins first history = (newer : History) × (history ≡ newer ++ first)
+
+-- How a journal stands to its volume, as it was opened and as it is now: each image that a crash may leave now has all that is
+-- durable, also after a flush that failed.
+pub record Standing (opened now : Facts) (log : LogValue) (first history durable : History) (is_known : Bool) : Type 0 where
+  pub since : Since opened now first history
+  pub grown : Begins first durable
+  pub left : (c : Image) → now.may_leave c → IsBetween durable history c
   pub known : IsTrue is_known → Known now log history durable
 
 abbrev pub Stands : {V : Type 0} → Ghosts V → JournalValue V → Type 0
-Stands g it = Standing (facts_of g it.opened) (facts_of g it.volume) it.log it.history it.durable it.is_known × IsSame g it.opened it.volume
+Stands g it = Standing (facts_of g it.opened) (facts_of g it.volume) it.log it.first it.history it.durable it.is_known × IsSame g it.opened it.volume
 
 -- the gate after a flush of this tail; none is written after an empty one
 abbrev pub gate_after : ℕ → List ℕ → ℕ

@@ -57,9 +57,11 @@ abbrev pub CannotWrite : {V : Type 0} → StoreValue V → LogRecord → Type 0
 CannotWrite store what =
     ((IsForFixed store.frames what → ⊥) ⊎ CannotTake store.frames what) ⊎ (MAX_LOG < next_of store + length (spelling what))
 
--- What stays where a call fails: the volume as it was opened, what was logged and how much of that is durable, and the file's size.
+-- What stays where a call fails: the volume as it was opened, what was logged then and since and how much of that is durable, and
+-- the file's size.
 pub record IsStill {V : Type 0} (old new : StoreValue V) : Type 0 where
   pub opened : new.journal.opened ≡ old.journal.opened
+  pub first : new.journal.first ≡ old.journal.first
   pub history : new.journal.history ≡ old.journal.history
   pub durable : new.journal.durable ≡ old.journal.durable
   pub size : new.frames.size ≡ old.frames.size

@@ -28,13 +28,13 @@ impl Model for Past {
 
     ghost Value = { PastValue };
 
-    ghost view = { λ _. record { history = []; durable = []; is_known = false } };
+    ghost view = { λ _. record { history = []; first = []; durable = []; is_known = false } };
 }
 
 impl Past {
     // The log was attached.
     fn attached(records: &[Logged]) -> Noted<Past>
-        ensures { result ≡ record { history = acts_of records.now; durable = acts_of records.now; is_known = true } }
+        ensures { result ≡ record { history = acts_of records.now; first = acts_of records.now; durable = acts_of records.now; is_known = true } }
     {
         Noted::of(&records)
     }
@@ -61,8 +61,8 @@ impl Past {
     }
 }
 
-/// A volume and the log on it. Clauses alone read the rest: the volume as it was opened, what was logged, how much of
-/// that is durable, and whether a flush has failed.
+/// A volume and the log on it. Clauses alone read the rest: the volume as it was opened, what was logged then and since,
+/// how much of that is durable, and whether a flush has failed.
 #[derive(Drop)]
 pub struct Journal<V: Volume> {
     volume: V,
@@ -86,7 +86,7 @@ impl<V: Volume> Journal<V> {
     pub fn over(volume: V, log: Log, records: &[Logged]) -> Journal<V>
         requires synced { IsSynced V.Volume Area.Log volume }
         requires attached { Attaches (V.models_content volume) (V.content volume Area.Log) log.limit log records.now }
-        ensures { result ≡ record { volume = volume; opened = volume; log = log; history = acts_of records.now; durable = acts_of records.now; is_known = true } }
+        ensures { result ≡ record { volume = volume; opened = volume; log = log; history = acts_of records.now; first = acts_of records.now; durable = acts_of records.now; is_known = true } }
     {
         let opened = Noted::of(&volume);
         Journal {
@@ -165,6 +165,7 @@ impl<V: Volume> Journal<V> {
         ensures empty { self.old.log.tail ≡ [] → IsOk result × (self.new ≡ self.old) }
         ensures err { OnErr result (self.new ≡ record self.old { volume = self.new.volume; log = self.new.log; is_known = false }) }
         ensures any_moment { AtEachMoment V.Volume self.old.volume self.new.volume (IsBetween self.old.durable self.old.history) }
+        ensures modelled { V.models_content self.new.volume → V.models_content self.old.volume }
         ensures keeps { ReadsNothing V.Volume self.old.volume self.new.volume }
         ensures cause { FailsIn V.Volume Area.Log self.old.opened self.new.volume result }
     {

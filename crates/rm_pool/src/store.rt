@@ -9,7 +9,7 @@ ghost use Rattle.rm_history.specs.declared.TheConstants.{BATCH_HEADER};
 ghost use Rattle.rm_apply.specs.declared.answers.ApplyRefused.TheVariants as refused;
 ghost use Rattle.rm_pool.specs.Frames.{IsBlockOf, IsPageOf};
 ghost use Rattle.rm_pool.specs.Journals.{EndsNext, HasNoRecordAt, IsRecordAt, Stands};
-ghost use Rattle.rm_pool.specs.Stores.{CannotWrite, HasShortTail, IsStill, made_durable, next_of, on_volume, with_block, with_page, written};
+ghost use Rattle.rm_pool.specs.Stores.{CannotWrite, HasShortTail, IsCurrent, IsStill, made_durable, next_of, on_volume, with_block, with_page, written};
 
 use crate::frames::Frames;
 use crate::journal::Journal;
@@ -170,6 +170,7 @@ impl<V: Volume> Store<V> {
     pub fn flush(&mut self) -> Result<(), Fault>
         requires { IsTrue self.old.journal.is_known }
         ensures ok { OnOk result (self.new ≡ made_durable self.old self.new.journal.volume) }
+        ensures modelled { V.models_content self.new.journal.volume → V.models_content self.old.journal.volume }
         ensures empty { self.old.journal.log.tail ≡ [] → IsOk result × (self.new ≡ self.old) }
         ensures err { OnErr result (IsStill self.old self.new) }
         ensures cause { FailsIn V.Volume Area.Log self.old.journal.opened self.new.journal.volume result }
@@ -187,6 +188,8 @@ impl<V: Volume> Store<V> {
         ensures free { HasShortTail self.old → IsOk result × (self.new ≡ self.old) }
         ensures short { OnOk result (HasShortTail self.new) }
         ensures ok { OnOk result ((self.new ≡ self.old) ⊎ (self.new ≡ made_durable self.old self.new.journal.volume)) }
+        ensures modelled { V.models_content self.new.journal.volume → V.models_content self.old.journal.volume }
+        ensures current { IsCurrent self.old }
         ensures err { OnErr result (IsStill self.old self.new) }
         ensures cause { FailsIn V.Volume Area.Log self.old.journal.opened self.new.journal.volume result }
     {
@@ -207,6 +210,7 @@ impl<V: Volume> Store<V> {
         ensures is_record { IfOk result IsRecord }
         ensures found { IfOk result (λ found. V.models_content self.new.journal.volume → IsRecordAt self.old.journal.history lsn.0 found) }
         ensures damaged { (area : Areas) (at : ℕ) → result ≡ Err (StoreFault.Fault (Fault.Damaged area at)) → (area ≡ Area.Log) × (at ≡ lsn.0) × (V.models_content self.new.journal.volume → HasNoRecordAt self.old.journal.history lsn.0) }
+        ensures modelled { V.models_content self.new.journal.volume → V.models_content self.old.journal.volume }
         ensures cause { StoreFailsIn V.Volume Area.Log self.old.journal.opened self.new.journal.volume result }
         ensures same { self.new ≡ on_volume self.old self.new.journal.volume }
     {

@@ -11,6 +11,7 @@ pub mod WordsRead
 pub mod LinesRead
 pub mod SessionsRead
 pub mod ScriptRead
+pub mod PlainRead
 pub mod ScriptLaws
 pub mod RowDigits
 pub mod TextLines

@@ -1,12 +1,13 @@
 -- The grammar of scripts: which lines spell which script, and which line is the first wrong one.
 use Rattle.std.specs.Prelude.{◌≡◌, ℕ, suc, ◌+◌, ◌<◌, List, [], ◌∷◌, ◌++◌, length, codes, decimal, map, Vec}
+use Rattle.std.specs.List.{AllZip}
 use Rattle.std.specs.declared.alloc.Global.{Global}
 use Rattle.rm_types.specs.declared.numbers.TheConstants.{MAX_SESSIONS}
 use Rattle.rm_events.specs.declared.lines.Line.{Line}
 use Rattle.rm_events.specs.declared.lines.Script.{Script}
 use Rattle.rm_events.specs.declared.lines.Word.{Word}
 use Rattle.rm_script.specs.Lines.{lines_of}
-use Rattle.rm_script.specs.Operations.{IsLine}
+use Rattle.rm_script.specs.Operations.{IsLine, IsWrong}
 use Rattle.rm_script.specs.Turns.{IsTurnLine}
 
 -- the line with which the session with this number begins
@@ -17,6 +18,10 @@ session_text number = codes "session " ++ decimal number
 abbrev pub AreTurnLines : ℕ → List Word → List (List ℕ) → Type 0
 AreTurnLines sessions words [] = words ≡ []
 AreTurnLines sessions words (text ∷ texts) = (own rest : List Word) × IsTurnLine sessions own text × AreTurnLines sessions rest texts × (words ≡ own ++ rest)
+
+-- the texts are operation lines
+abbrev pub AreLines : List Line → List (List ℕ) → Type 0
+AreLines lines texts = AllZip IsLine lines texts
 
 -- what stands after the sessions: nothing, or `turns` and turn lines
 abbrev pub IsEnd : ℕ → List Word → List (List ℕ) → Type 0
@@ -56,4 +61,15 @@ pub record IsFirstWrong (number : ℕ) (bytes : List ℕ) : Type 0 where
   pub cut : lines_of bytes ≡ right ++ wrong ∷ rest
   pub begins : BeginsScript right
   pub goes_wrong : BeginsScript (right ++ wrong ∷ []) → ⊥
+  pub is_number : number ≡ length right + 1
+
+-- the line with this number, from 1, is the first that is no operation line
+pub record IsFirstOther (number : ℕ) (bytes : List ℕ) : Type 0 where
+  pub lines : List Line
+  pub right : List (List ℕ)
+  pub wrong : List ℕ
+  pub rest : List (List ℕ)
+  pub cut : lines_of bytes ≡ right ++ wrong ∷ rest
+  pub are_lines : AreLines lines right
+  pub is_wrong : IsWrong wrong
   pub is_number : number ≡ length right + 1

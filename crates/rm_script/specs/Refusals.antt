@@ -5,7 +5,7 @@ use Rattle.rm_script.specs.declared.limits.Which.TheVariants as which
 use Rattle.rm_script.specs.declared.limits.TheConstants.{MAX_BYTES, MAX_LINES}
 use Rattle.rm_script.specs.declared.refused.ScriptRefused.{ScriptRefused}
 use Rattle.rm_script.specs.declared.refused.ScriptRefused.TheVariants as refused
-use Rattle.rm_script.specs.Grammar.{IsFirstWrong}
+use Rattle.rm_script.specs.Grammar.{IsFirstOther, IsFirstWrong}
 use Rattle.rm_script.specs.Lines.{lines_of}
 
 -- the bytes are as many, and have as many lines, as those of a script may be
@@ -24,3 +24,9 @@ abbrev pub Refuses : List ℕ → ScriptRefused → Type 0
 Refuses bytes (refused.Bad line) = IsWithinLimits bytes × IsFirstWrong line bytes
 Refuses bytes (refused.Limit what) = HasTooMuch bytes what
 Refuses bytes refused.NoMemory = Unit {0}
+
+-- they are as one in the plain form
+abbrev pub RefusesPlain : List ℕ → ScriptRefused → Type 0
+RefusesPlain bytes (refused.Bad line) = IsWithinLimits bytes × IsFirstOther line bytes
+RefusesPlain bytes (refused.Limit what) = HasTooMuch bytes what
+RefusesPlain bytes refused.NoMemory = Unit {0}

@@ -28,7 +28,7 @@ pub use laws::{
 pub use limits::{MAX_BYTES, MAX_LINES, MAX_TURNS, Which};
 pub use lines::{first_line, line_count};
 pub use parts::{Part, write_line};
-pub use reading::read_script;
+pub use reading::{read_plain, read_script};
 pub use refused::ScriptRefused;
 pub use rows::row_of;
 pub use texts::{

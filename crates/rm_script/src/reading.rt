@@ -1,12 +1,10 @@
 //! Reading a whole script.
 
 ghost use Rattle.std.specs.Prelude.{◌≡◌, suc, ◌<◌, ◌≤◌, ◌∷◌, length, IfOk, IfErr, IfSome, IfNone};
-ghost use Rattle.std.specs.List.{AllZip};
-ghost use Rattle.rm_script.specs.Grammar.{AreTurnLines, Spells, lines_in, session_text};
+ghost use Rattle.rm_script.specs.Grammar.{AreLines, AreTurnLines, Spells, lines_in, session_text};
 ghost use Rattle.rm_script.specs.Lines.{lines_of};
-ghost use Rattle.rm_script.specs.Operations.{IsLine};
 ghost use Rattle.rm_script.specs.Reading.{AreSessions, HasEnd, HasRead, IsSomeLine, IsSomeTurnLine, LacksFirst, SessionsStop, StopsAt};
-ghost use Rattle.rm_script.specs.Refusals.{IsWithinLimits, Refuses};
+ghost use Rattle.rm_script.specs.Refusals.{IsWithinLimits, Refuses, RefusesPlain};
 
 use crate::fields::number;
 use crate::limits::count_within_limits;
@@ -37,6 +35,24 @@ pub fn read_script(alloc: Global, bytes: &[u8]) -> Result<Script, ScriptRefused>
     let (words, rest) = read_turns(alloc, sessions.len(), rest)?;
     if rest.is_empty() {
         return Ok(Script { sessions, words });
+    }
+    let right = (count - line_count(rest)) as u64;
+    Err(ScriptRefused::Bad { line: right + 1 })
+}
+
+/// The lines of the one session of a script in the plain form, which has nothing else.
+///
+/// # Errors
+///
+/// As [`read_script`].
+pub fn read_plain(alloc: Global, bytes: &[u8]) -> Result<Vec<Line>, ScriptRefused>
+    ensures lines { IfOk result (λ lines. IsWithinLimits bytes.now × AreLines lines.items (lines_of bytes.now)) }
+    ensures refused { IfErr result (RefusesPlain bytes.now) }
+{
+    let count = count_within_limits(bytes)?;
+    let (lines, rest) = read_lines(alloc, bytes)?;
+    if rest.is_empty() {
+        return Ok(lines);
     }
     let right = (count - line_count(rest)) as u64;
     Err(ScriptRefused::Bad { line: right + 1 })
@@ -80,7 +96,7 @@ fn after_session(count: usize, bytes: &[u8]) -> Option<&[u8]>
 
 /// Reads operation lines up to the first text that is none, and gives what is left from there.
 fn read_lines(alloc: Global, bytes: &[u8]) -> Result<(Vec<Line>, &[u8]), NoMemory>
-    ensures read { IfOk result (λ read. HasRead (AllZip IsLine read.0.items) bytes.now read.1.now) }
+    ensures read { IfOk result (λ read. HasRead (AreLines read.0.items) bytes.now read.1.now) }
     ensures stops { IfOk result (λ read. StopsAt IsSomeLine (lines_of read.1.now)) }
     ensures shorter { IfOk result (λ read. length read.1.now ≤ length bytes.now) }
 {
