@@ -3,7 +3,10 @@ use Rattle.rm_desk.proofs.Names.{◌≡◌, ◌≤◌, ℕ, ◌↔◌, ◌⊎◌
 use Rattle.rm_desk.proofs.Names.{unwrap_or, IfSome, IfNone, refl, subst, arith, nat_tests, cond_both, false≢true, Mode}
 use Rattle.rm_desk.proofs.Names.{Rid, TxnId, MAX_SLOT, HasGrant, HoldsAlone, Blocks, has_it, joined, released, Grant, joined_any, joined_alone}
 use Rattle.rm_desk.proofs.Names.{more-released, released-less, alone_has, LockTable, mode_in, entry_in, Holds, is_exclusive, IsLeastBlocker, is_same_lock}
-use Rattle.rm_desk.proofs.Names.{raised, Grants, Releases, same_lock, is_alone, IsFree, IsRefused, IsLeastHolder, Stands}
+use Rattle.rm_desk.proofs.Names.{raised, Grants, Releases, same_lock, is_alone, IsFree, IsRefused, IsLeastHolder, IsHeld, blocker, number_in, ◌<◌, cases_lt}
+use Rattle.rm_desk.proofs.Names.{IsSlotForRow, sym, ap, Slot, Vacant, slot_at, State, Seat, slot_for, page_of}
+use Rattle.rm_desk.specs.Granted.{Stands}
+use Rattle.rm_play.proofs.Finding.{IsLeast, Keeps, blocker_is_least, slot_is_for_row}
 use Rattle.rm_locks.specs.LockTable.{HoldsAlone as IsExclusive, IsFree as IsFreeIn, Blocks as BlocksIn}
 
 -- ---- who blocks
@@ -31,17 +34,60 @@ none entries grants stands txn rid mode None free = λ other apart blocks. free 
 none entries grants stands txn rid mode (Some holder) is = tt
 
 -- whether one is found
-pub held : (entries : LockTable) (grants : List Grant) → Stands entries grants → (txn : ℕ) (rid : Rid) (mode : Mode) (found : Option TxnId)
+pub held : (entries : LockTable) (grants : List Grant) → Stands entries grants → (txn : ℕ) (rid : Rid) (found : Option TxnId)
+    → IfSome found (λ holder. IsLeastBlocker entries txn rid Exclusive holder.0) → IfNone found (IsFreeIn entries txn rid Exclusive)
+    → (IsTrue (is_some found) ↔ IsHeld grants txn rid.page rid.slot) × (IsTrue (is_some found) → rid.slot ≤ MAX_SLOT)
+held entries grants stands txn rid None some is =
+    ((λ never. absurd (false≢true never), λ refused. absurd (none entries grants stands txn rid Exclusive None is refused.0 refused.1 refused.2)), λ never. absurd (false≢true never))
+held entries grants stands txn rid (Some holder) is free =
+    let refused = (blocks_same entries grants stands holder.0 rid Exclusive).0 is.blocks in
+    ((λ yes. (holder.0, is.other, refused), λ refused. refl), λ yes. stands.placed holder.0 rid refused)
+
+-- ---- the one that the machine names
+
+least_one : (P : ℕ → Type 0) (a b : Option ℕ) → IsLeast P a → IsLeast P b → a ≡ b
+least_one P None None is too = refl
+least_one P None (Some b) none is = absurd (none b is.0)
+least_one P (Some a) None is none = absurd (none a is.0)
+least_one P (Some a) (Some b) is too = elim (cases_lt a b) [
+  | inl below ↦ absurd (too.1 a below is.0)
+  | inr not ↦ elim (cases_lt b a) [ inl below ↦ absurd (is.1 b below too.0) | inr nor ↦ ap Some (omega (arith, not, nor)) ]
+]
+
+pub blocker_is : (entries : LockTable) (grants : List Grant) → Stands entries grants → (txn : ℕ) (rid : Rid) (mode : Mode) (found : Option TxnId)
     → IfSome found (λ holder. IsLeastBlocker entries txn rid mode holder.0) → IfNone found (IsFreeIn entries txn rid mode)
-    → (IsTrue (is_some found) ↔ IsRefused grants txn rid mode) × (IsTrue (is_some found) → rid.slot ≤ MAX_SLOT)
-held entries grants stands txn rid mode None some is =
-    ((λ never. absurd (false≢true never), λ refused. absurd (none entries grants stands txn rid mode None is refused.0 refused.1 refused.2)), λ never. absurd (false≢true never))
-held entries grants stands txn rid mode (Some holder) is free =
-    let refused = (blocks_same entries grants stands holder.0 rid mode).0 is.blocks in
-    ((λ yes. (holder.0, is.other, refused), λ refused. refl), λ yes. stands.placed holder.0 rid (any mode refused))
+    → number_in found ≡ blocker grants txn rid (is_alone mode)
+blocker_is entries grants stands txn rid mode found some is =
+    least_one (Keeps grants txn rid (is_alone mode)) (number_in found) (blocker grants txn rid (is_alone mode)) (by found some is) (blocker_is_least grants txn rid (is_alone mode))
   where
-    any : (mode : Mode) → Blocks grants holder.0 rid (is_alone mode) → HasGrant grants holder.0 rid
-    any mode refused = grind (arith, nat_tests, alone_has)
+    by : (found : Option TxnId) → IfSome found (λ holder. IsLeastBlocker entries txn rid mode holder.0) → IfNone found (IsFreeIn entries txn rid mode)
+        → IsLeast (Keeps grants txn rid (is_alone mode)) (number_in found)
+    by None some is = λ other keeps. none entries grants stands txn rid mode None is other keeps.0 keeps.1
+    by (Some holder) some is =
+        let it : IsLeastHolder grants txn rid mode holder.0 = least entries grants stands txn rid mode (Some holder) some in
+        ((it.other, it.blocks), λ lower below keeps. it.least lower below keeps.0 keeps.1)
+
+pub no_blocker : (grants : List Grant) (txn : ℕ) (rid : Rid) (mode : Mode) → blocker grants txn rid (is_alone mode) ≡ None → IsFree grants txn rid mode
+no_blocker grants txn rid mode is other apart blocks =
+    let least : IsLeast (Keeps grants txn rid (is_alone mode)) None = subst (IsLeast (Keeps grants txn rid (is_alone mode))) is (blocker_is_least grants txn rid (is_alone mode)) in
+    least other (apart, blocks)
+
+-- the slot that the machine takes is the one that is looked for, and no other transaction has a lock on it
+slot_one : (IsTaken : ℕ → Type 0) (slots : List Slot) (a b : ℕ) → IsSlotForRow IsTaken slots a → IsSlotForRow IsTaken slots b → a ≡ b
+slot_one IsTaken slots a b one two = elim (cases_lt a b) [
+  | inl below ↦ absurd (two.least a below one.vacant one.free)
+  | inr not ↦ elim (cases_lt b a) [ inl below ↦ absurd (one.least b below two.vacant two.free) | inr nor ↦ omega (arith, not, nor) ]
+]
+
+pub slot_is : (s : State) (seat : Seat) (page slot : ℕ) → IsSlotForRow (IsHeld s.grants seat.txn page) (page_of s.history page) slot → slot ≡ slot_for s seat page
+slot_is s seat page slot is = slot_one (IsHeld s.grants seat.txn page) (page_of s.history page) slot (slot_for s seat page) is (slot_is_for_row s seat page)
+
+pub not_held : (grants : List Grant) (txn : ℕ) (rid : Rid) → (IsHeld grants txn rid.page rid.slot → ⊥) → blocker grants txn rid true ≡ None
+not_held grants txn rid free = by (blocker grants txn rid true) (blocker_is_least grants txn rid true)
+  where
+    by : (found : Option ℕ) → IsLeast (Keeps grants txn rid true) found → found ≡ None
+    by None least = refl
+    by (Some other) least = absurd (free (other, least.0.0, least.0.1))
 
 -- ---- a lock more
 

@@ -1,7 +1,11 @@
 pub mod Names
 pub mod Entries
 pub mod Slots
+pub mod Stacks
+pub mod Keeping
 pub mod Standing
+pub mod Looking
+pub mod Saving
 pub mod Changing
 pub mod Undoing
-pub mod Saving
+pub mod Rooms

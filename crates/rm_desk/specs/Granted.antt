@@ -1,22 +1,15 @@
 -- The machine's grants, and the entries that stand for them.
-use Rattle.std.specs.Prelude.{◌≡◌, ℕ, ◌≤◌, ◌<◌, ◌↔◌, Bool, true, false, List}
+use Rattle.std.specs.Prelude.{◌≡◌, ℕ, ◌≤◌, ◌<◌, ◌↔◌, Bool, List}
 use Rattle.rm_types.specs.declared.modes.Mode.{Mode}
-use Rattle.rm_types.specs.declared.modes.Mode.TheVariants.{Shared, Exclusive}
-use Rattle.rm_types.specs.declared.numbers.Rid.{Rid}
-use Rattle.rm_types.specs.declared.numbers.TheConstants.{MAX_SLOT}
-use Rattle.rm_core.specs.Locks.{HasGrant, HoldsAlone, Blocks}
-use Rattle.rm_core.specs.State.{Grant}
+use Rattle.rm_core.specs.Below.{Rid, MAX_SLOT}
+use Rattle.rm_core.specs.Names.{HasGrant, HoldsAlone, Blocks, Grant}
 use Rattle.rm_locks.specs.LockTable.{LockTable, Holds, HoldsAlone as IsExclusive}
+use Rattle.rm_ops.specs.Views.{is_alone}
 
 -- the grants; the entries, which say for which locks there is room
 pub record Granted : Type 0 where
   pub grants : List Grant
   pub entries : LockTable
-
--- whether a lock in this mode stands alone
-abbrev pub is_alone : Mode → Bool
-is_alone Shared = false
-is_alone Exclusive = true
 
 -- another transaction's grants refuse the lock; no other's do
 abbrev pub IsRefused : List Grant → ℕ → Rid → Mode → Type 0

@@ -1,3 +1,3 @@
 pub mod Granted
-pub mod Stages
+pub mod Stacks
 pub mod Desks

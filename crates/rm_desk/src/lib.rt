@@ -1,20 +1,20 @@
-//! The tables of an engine of many sessions, in the words of the machine (docs/DEFINITIONS.md).
+//! The sessions' part of the machine, on tables (docs/DEFINITIONS.md).
 //!
-//! [`Grants`] has the row locks, and its value is the machine's list of grants. [`Desk`] has the transactions, the needs
-//! of their undo and the stages of all sessions, and its value is the machine's history, seats and next id. Each call
-//! leaves what a turn of the machine leaves of these.
+//! [`Desk`] has the row locks, the transactions, the needs of their undo, their pending changes, and the stage and the
+//! operation of each session. Its value is the machine's setting and state and the operations, and what its tables have
+//! room for: each call is a look at these, or leaves what a turn of the machine leaves.
 //!
-//! The invariant of either is that the tables stand for that value. The history and the lists are noted for clauses
-//! alone. What takes memory comes before a change, so that no change of a table fails.
+//! The invariant is that the tables stand for that value. The history and the lists are noted for clauses alone. What
+//! takes memory comes before a record is logged, so that no change of a table after it fails.
 #![tactic(auto)]
 
-mod changes;
+mod barring;
 mod desk;
 mod grants;
-mod sessions;
-mod stages;
+mod logging;
+mod moves;
+mod room;
+mod stacks;
 
-pub use changes::LastChange;
 pub use desk::Desk;
-pub use grants::Grants;
-pub use stages::{Aim, Outcome, Stage};
+pub use stacks::PendingChange;

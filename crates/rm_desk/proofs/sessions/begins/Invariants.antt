@@ -1,5 +1,0 @@
-use Rattle.rm_desk.specs.Desks.{begun}
-use Rattle.rm_desk.proofs.sessions.begins.Given as goal
-
-abbrev pub ghost-of : goal.ghost-of
-ghost-of a = begun a._from.now.0.now a._from.now.1

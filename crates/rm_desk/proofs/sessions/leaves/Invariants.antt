@@ -1,5 +1,0 @@
-use Rattle.rm_desk.proofs.Names.{empty_seat, seated}
-use Rattle.rm_desk.proofs.sessions.leaves.Given as goal
-
-abbrev pub ghost-of : goal.ghost-of
-ghost-of a = seated a._from.now.0.now a._from.now.1 empty_seat
