@@ -1,11 +1,19 @@
 -- The tables stand for the sessions after a change of a slot.
-use Rattle.rm_desk.proofs.Names.{◌≡◌, ℕ, ◌+◌, ◌-◌, ◌<◌, ◌↔◌, inl, inr, false, List, ◌∷◌, Option, option_map, slice_set, refl, sym, ap, ◌∙◌}
-use Rattle.rm_desk.proofs.Names.{arith, nat_tests, cases_eq, eq-eqb, ne_eqb, Lsn, MAX_SESSIONS, row_length, sum_below-same, Change, History, changes, need_of}
-use Rattle.rm_desk.proofs.Names.{FitsOn, pending_of, need_of-change, need_of-change_other, pending_on-change, pending-change, pending-change_other}
+use Rattle.rm_desk.proofs.Names.{◌≡◌, ℕ, ◌+◌, ◌-◌, ◌<◌, ◌≤◌, ◌↔◌, ◌⊎◌, inl, inr, false, true, List, [], ◌∷◌, map, length, Option, Some, None, option_map, slice_set, refl, sym, ap, subst}
+use Rattle.rm_desk.proofs.Names.{◌∙◌, arith, nat_tests, cases_eq, eq-eqb, ne_eqb, IsSome, Lsn, row_length, sum_below-same, Change, History, changes, newest_lsn, need_of, Fits, FitsOn}
+use Rattle.rm_desk.proofs.Names.{pending_of, need_of-change, need_of-change_other, pending_on-change, pending-change, pending-change_other, last_is_inside}
 use Rattle.rm_desk.proofs.Names.{staged, Seat, seat_at, Reserved, need_in, HasEntry, with_need, HasRoom, IsOther, Txn, Table, txn_of, ChangesOnly, HasId}
-use Rattle.rm_desk.proofs.Names.{after_push, Stage, stage_of, Sessions, is_over, seat_from, stage_at, goes, logged, IsOn, Accounts}
+use Rattle.rm_desk.proofs.Names.{after_push, Stage, Setting, Sessions, Tables, is_over, IsOfFile, seat_from, pending_by, stage_at, goes, logged, IsOn, Accounts, Goes, MAX_SLOT}
+use Rattle.rm_desk.proofs.Names.{StackValue, PendingChange, stack_at, SetsStack, noted_of, owed_in, owed_by, bytes_for, TXN_BYTES, page_of, used, Rid, Slot, Vacant, Row, slot_at}
+use Rattle.rm_desk.proofs.Names.{State, slot_for, new_slot, row_in, length_in, Op, fitting_is_room, change_of}
+use Rattle.std.proofs.lemmas.Bool.{leb-true}
+use Rattle.rm_model.proofs.Slots.{length_within}
+use Rattle.rm_core.specs.Names as core
+use Rattle.rm_play.specs.Choosing.{row_fits, growth_fits}
+use Rattle.rm_play.proofs.Finding.{slot_is_for_row}
 use Rattle.rm_desk.specs.Desks.{Stands}
-use Rattle.rm_desk.proofs.Standing.{only_now, moved, IsIdOf, apart_from}
+use Rattle.rm_desk.proofs.Keeping.{change_kept}
+use Rattle.rm_desk.proofs.Standing.{with_op, moved_to, moved, owed_moves, only_now, seat_now, own_id, IsIdOf, elsewhere, stage_is}
 
 -- where a page fits with the needs of a history, so it does with one need of it that is set in the table
 pub has_room : (needs : Reserved) (history : History) (page txn need : ℕ) → need ≡ need_of history txn page
@@ -24,40 +32,103 @@ pub record Sets (needs left : Reserved) (page txn need : ℕ) : Type 0 where
   pub elsewhere : (at by : ℕ) → IsOther at by page txn → need_in left at by ≡ need_in needs at by
   pub entries : (at by : ℕ) → HasEntry left at by ↔ HasEntry needs at by
 
-module _ (table : Table) (needs : Reserved) (stages : List Stage) (s : Sessions) (stands : Stands table needs stages s) (k : ℕ) (among : k < MAX_SESSIONS) (c : Change) (own : IsIdOf table k c.txn) where
+-- ---- which changes fit
+
+pub insert_fits : (s : State) (seat : Seat) (row : List ℕ) (rid : Rid) (lsn : ℕ) → Fits s.history → rid.slot ≡ slot_for s seat rid.page
+    → row_fits s seat rid.page rid.slot (length row) ≡ true → Fits (changes (change_of s.history seat.txn rid Vacant (Row row) lsn) ∷ s.history)
+insert_fits s seat row rid lsn fits slot room =
+    let vacant : slot_at (page_of s.history rid.page) rid.slot ≡ Vacant = rw slot (slot_is_for_row s seat rid.page).vacant in
+    (fitting_is_room.row s.history (change_of s.history seat.txn rid Vacant (Row row) lsn) row fits vacant refl refl).0 (leb-true _ _ room)
+
+pub alter_fits : (s : State) (seat : Seat) (op : Op) (rid : Rid) (before lsn : ℕ) → Fits s.history → length_in (slot_at (page_of s.history rid.page) rid.slot) ≡ Some before
+    → (new_slot op ≡ Vacant) ⊎ (growth_fits s seat rid.page (length (row_in op) - before) ≡ true)
+    → Fits (changes (change_of s.history seat.txn rid (slot_at (page_of s.history rid.page) rid.slot) (new_slot op) lsn) ∷ s.history)
+alter_fits s seat op rid before lsn fits held room = by (slot_at (page_of s.history rid.page) rid.slot) refl held (new_slot op) (row_is op) room
+  where
+    row_is : (op : Op) → (new_slot op ≡ Vacant) ⊎ (new_slot op ≡ Row (row_in op))
+    row_is op = grind (arith, nat_tests)
+
+    by : (old : Slot) → slot_at (page_of s.history rid.page) rid.slot ≡ old → length_in old ≡ Some before → (new : Slot) → (new ≡ Vacant) ⊎ (new ≡ Row (row_in op))
+        → (new ≡ Vacant) ⊎ (growth_fits s seat rid.page (length (row_in op) - before) ≡ true) → Fits (changes (change_of s.history seat.txn rid old new lsn) ∷ s.history)
+    by Vacant is held new now room = absurd cc
+    by (Row old) is held Vacant now room = fitting_is_room.delete s.history (change_of s.history seat.txn rid (Row old) Vacant lsn) old fits is refl refl
+    by (Row old) is held (Row new) now (inl never) = absurd cc
+    by (Row old) is held (Row new) now (inr room) =
+        let same : before ≡ length old = cc in
+        let row : row_in op ≡ new = elim now [ inl never ↦ absurd cc | inr is ↦ cc ] in
+        (fitting_is_room.growth s.history (change_of s.history seat.txn rid (Row old) (Row new) lsn) old new fits is refl refl).0
+        (leb-true _ _ (rw (row, same) at room))
+
+pub slot_inside : (history : History) (c : Change) → Fits (changes c ∷ history) → c.rid.slot ≤ MAX_SLOT
+slot_inside history c fits =
+    omega (arith, fits c.rid.page 0, length_within (page_of (changes c ∷ history) c.rid.page),
+    last_is_inside (changes c ∷ history) c.txn c (pending_of history c.txn) (pending-change c history))
+
+module _ (m : Setting) (t : Tables) (s : Sessions) (stands : Stands m t s) (k : ℕ) (known : k < length s.seats) (c : Change) (own : IsIdOf m t s stands k known c.txn) where
   abbrev after : History
   after = changes c ∷ s.history
 
-  need_after : (need_in needs c.rid.page c.txn + row_length c.before) - row_length c.after ≡ need_of after c.txn c.rid.page
+  abbrev its : Option Txn
+  its = txn_of t.table (k + 1)
+
+  abbrev at : core.Stage
+  at = stage_at t k
+
+  need_after : (need_in t.needs c.rid.page c.txn + row_length c.before) - row_length c.after ≡ need_of after c.txn c.rid.page
   need_after = ap (λ n. (n + row_length c.before) - row_length c.after) (stands.needed c.rid.page c.txn) ∙ sym (need_of-change s.history c c.rid.page refl)
 
-  pub change_room : FitsOn after c.rid.page → HasRoom needs c.rid.page c.txn ((need_in needs c.rid.page c.txn + row_length c.before) - row_length c.after)
-  change_room fits = has_room needs after c.rid.page c.txn _ need_after
+  pub change_room : FitsOn after c.rid.page → HasRoom t.needs c.rid.page c.txn ((need_in t.needs c.rid.page c.txn + row_length c.before) - row_length c.after)
+  change_room fits = has_room t.needs after c.rid.page c.txn _ need_after
       (λ other differs. stands.needed c.rid.page other ∙ sym (need_of-change_other s.history c other c.rid.page (λ same. differs (sym same)))) fits
 
-  pub change_keeps : (next : Table) (left : Reserved) (lsn : Lsn) (stage : Stage) → c.lsn ≡ lsn.0 → is_over (seat_at s.seats k).stage ≡ false → is_over (stage_of stage) ≡ false
-      → HasEntry needs c.rid.page c.txn → Sets needs left c.rid.page c.txn ((need_in needs c.rid.page c.txn + row_length c.before) - row_length c.after)
-      → ChangesOnly table next (k + 1) (option_map (after_push lsn (row_length c.before)) (txn_of table (k + 1)))
-      → Stands next left (slice_set stages k stage) (goes (logged s (changes c)) k (stage_of stage))
-  change_keeps next left lsn stage lsn_is going over ready sets only =
-      let txn = option_map (after_push lsn (row_length c.before)) (txn_of table (k + 1)) in
-      rw (ap (λ (at : Seat). staged at (stage_of stage)) (stands.seated k among) ∙ seat_is (txn_of table (k + 1)))
-      (moved table next needs left stages s k txn stage after s.next (record {
-        stands = stands;
-        among = among;
-        only = only_now table next (k + 1) s.next txn stands.next only;
+  -- what all owe after it
+  pub change_owes : (stage : core.Stage) → is_over (seat_at s.seats k).stage ≡ false → is_over stage ≡ false
+      → owed_in (goes (logged s (changes c)) k stage) ≡ owed_in s + (TXN_BYTES + row_length c.before)
+  change_owes stage going over =
+      let moves = owed_moves m t s stands k known after (staged (seat_at s.seats k) stage) s.next (λ j id apart has. pending-change_other c s.history id (elsewhere m t s stands k known c.txn own j id apart has)) in
+      omega (arith, moves, owes (seat_at s.seats k) own.is going)
+    where
+      owes : (seat : Seat) → seat.txn ≡ c.txn → is_over seat.stage ≡ false → owed_by after (staged seat stage) ≡ owed_by s.history seat + (TXN_BYTES + row_length c.before)
+      owes seat is going = grind (arith, nat_tests, own.given, pending-change c s.history)
+
+  pub change_keeps : (next : Table) (left : Reserved) (stacks : List StackValue) (lsn : Lsn) (need before : ℕ) (stage : Stage) → c.lsn ≡ lsn.0 → row_length c.before ≡ before
+      → need ≡ need_in t.needs c.rid.page c.txn → c.need ≡ need_of s.history c.txn c.rid.page → Goes m.pages c (pending_of s.history c.txn) → Fits after
+      → newest_lsn s.history < c.lsn → is_over (seat_at s.seats k).stage ≡ false → is_over (with_op t k stage) ≡ false → IsOfFile m.pages (with_op t k stage)
+      → HasEntry t.needs c.rid.page c.txn → Sets t.needs left c.rid.page c.txn ((need_in t.needs c.rid.page c.txn + row_length c.before) - row_length c.after)
+      → ChangesOnly t.table next (k + 1) (option_map (after_push lsn before) its)
+      → SetsStack t.stacks stacks k (record { lsn = lsn; rid = c.rid; need = need; before = before } ∷ (stack_at t.stacks k).changes)
+      → Stands m (moved_to t next left stacks k stage) (goes (logged s (changes c)) k (with_op t k stage))
+  change_keeps next left stacks lsn need before stage lsn_is before_is need_is logged_need chain fits above going over inside ready sets only stacked =
+      let old = stands.sits k (omega (arith, known, stands.sized)) in
+      let txn = option_map (after_push lsn before) its in
+      let going_at : is_over at ≡ false = ap is_over (sym (stage_is m t s stands k known)) ∙ going in
+      let noted : record { lsn = lsn; rid = c.rid; need = need; before = before } ≡ noted_of c = cc (stands.needed c.rid.page c.txn, lsn_is, before_is, need_is, logged_need) in
+      rw (seat_now m t s stands k known (with_op t k stage) ∙ seat_is its)
+      (moved m t s stands k known next left stacks txn stage after s.next (record {
+        only = only_now m t s stands k known next txn only;
         more = omega (arith, stands.next);
-        others = λ j other apart has. pending-change_other c s.history other (apart_from table k c.txn own j other apart has);
-        accounted = accounted (txn_of table (k + 1)) own.has (rw (stands.seated k among) at going) (stands.accounted k among);
+        own = own_id m t s stands k known txn (same its);
+        others = λ j other apart has. pending-change_other c s.history other (elsewhere m t s stands k known c.txn own j other apart has);
+        stacks_are = record { here = stacked.here ∙ ap (λ (p : PendingChange). p ∷ (stack_at t.stacks k).changes) noted ∙ ap (λ (l : List PendingChange). noted_of c ∷ l) old.stacked ∙ sym (pends its own.has); others = stacked.others };
+        accounted = accounted its own.has going_at old.accounted;
+        of_file = inside;
         needed = needed;
         there = there;
+        kept = change_kept m.pages s.next s.history c own.given.1 above chain fits stands.kept;
       }))
     where
-      seat_is : (txn : Option Txn) → staged (seat_from txn (stage_at stages k)) (stage_of stage) ≡ seat_from (option_map (after_push lsn (row_length c.before)) txn) (stage_of stage)
+      seat_is : (txn : Option Txn) → seat_from txn (with_op t k stage) ≡ seat_from (option_map (after_push lsn before) txn) (with_op t k stage)
       seat_is txn = grind (arith, nat_tests)
 
-      accounted : (txn : Option Txn) → HasId txn c.txn → is_over (seat_from txn (stage_at stages k)).stage ≡ false → Accounts s.history (stage_at stages k) txn
-          → Accounts after (stage_of stage) (option_map (after_push lsn (row_length c.before)) txn)
+      same : (txn : Option Txn) (id : ℕ) → HasId (option_map (after_push lsn before) txn) id → HasId txn id
+      same txn id has = grind (arith, nat_tests)
+
+      pends : (txn : Option Txn) → HasId txn c.txn → map noted_of (pending_by after (option_map (after_push lsn before) txn)) ≡ noted_of c ∷ map noted_of (pending_by s.history txn)
+      pends None has = absurd has
+      pends (Some txn) has = rw (has, pending-change c s.history)
+
+      accounted : (txn : Option Txn) → HasId txn c.txn → is_over at ≡ false → Accounts s.history at txn
+          → Accounts after (with_op t k stage) (option_map (after_push lsn before) txn)
       accounted txn has going is = grind (arith, nat_tests, pending-change)
 
       needed : (page id : ℕ) → need_in left page id ≡ need_of after id page

@@ -1,7 +1,7 @@
 pub mod Names
 pub mod Entries
 pub mod Slots
-pub mod Stacks
+pub mod Piles
 pub mod Keeping
 pub mod Standing
 pub mod Looking

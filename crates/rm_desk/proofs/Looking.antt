@@ -6,7 +6,8 @@ use Rattle.rm_desk.proofs.Names.{PendingChange, first_of, rest_of, top_of, noted
 use Rattle.rm_model.proofs.Sums.{sum_below-at}
 use Rattle.rm_desk.specs.Desks.{Stands}
 use Rattle.rm_desk.proofs.Keeping.{pending_past}
-use Rattle.rm_desk.proofs.Standing.{pending_is}
+use Rattle.rm_desk.proofs.Names.{TxnId, Txn, number_of, option_map, txn_of, seat_from, stage_at}
+use Rattle.rm_desk.proofs.Standing.{pending_is, txn_is}
 
 -- ---- what is pending
 
@@ -19,6 +20,12 @@ top_is [] = refl
 top_is (last ∷ rest) = refl
 
 module _ (m : Setting) (t : Tables) (s : Sessions) (stands : Stands m t s) where
+  pub number_is : (k : ℕ) → k < length s.seats → (found : Option TxnId) → found ≡ option_map (λ txn. txn.id) (txn_of t.table (k + 1)) → number_of found ≡ (seat_at s.seats k).txn
+  number_is k known found is = ap number_of is ∙ by (txn_of t.table (k + 1)) ∙ sym (txn_is m t s stands k known)
+    where
+      by : (txn : Option Txn) → number_of (option_map (λ txn. txn.id) txn) ≡ (seat_from txn (stage_at t k)).txn
+      by txn = grind (arith, nat_tests)
+
   module _ (k : ℕ) (known : k < length s.seats) (some : (seat_at s.seats k).txn ≡ 0 → ⊥) where
     abbrev pending : List Change
     pending = pending_of s.history (seat_at s.seats k).txn
@@ -76,3 +83,6 @@ some_from test from (suc n) at above below none is = elim (cases_eq from at) [
 
 pub first_some : (test : ℕ → Bool) (n at : ℕ) → at < n → ((i : ℕ) → i < at → test i ≡ false) → test at ≡ true → Some at ≡ first_from test 0 n
 first_some test n at below none is = sym (some_from test 0 n at (omega arith) (omega arith) (λ i above less. none i less) is)
+
+pub more_passed : (test : ℕ → Bool) (j : ℕ) → ((i : ℕ) → i < j → test i ≡ false) → test j ≡ false → (i : ℕ) → i < j + 1 → test i ≡ false
+more_passed test j before here i below = elim (cases_lt i j) [ inl less ↦ before i less | inr not ↦ let same : i ≡ j = omega (arith, below, not) in ap test same ∙ here ]

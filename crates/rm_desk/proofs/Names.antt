@@ -28,7 +28,8 @@ pub use Rattle.rm_ops.specs.Views.{View, HasSession, IsActive, is_over, IsOfFile
 pub use Rattle.rm_ops.specs.declared.stages.Aim.{Aim}
 pub use Rattle.rm_ops.specs.declared.stages.LastChange.{LastChange}
 pub use Rattle.rm_ops.specs.declared.stages.Stage.{Stage}
-pub use Rattle.rm_ops.specs.declared.stages.Stage.TheVariants.{Idle, Forces, Rolls, Compensates}
+pub use Rattle.rm_ops.specs.declared.stages.Stage.TheVariants.{Idle, Settles, Forces, Rolls, Compensates}
+pub use Rattle.rm_ops.specs.declared.stages.Made.TheVariants.{Inserted, Altered}
 pub use Rattle.rm_play.specs.Choosing.{blocker, slot_for, has_number, first_from}
 pub use Rattle.rm_txns.specs.Savepoints.{is_of, without, place_of, back_to}
 pub use Rattle.rm_txns.specs.Tables.{Table, txn_of, owed_of, ChangesOnly, HasId, HaveOwnIds}

@@ -32,9 +32,6 @@ module _ (m : Setting) (t : Tables) (s : Sessions) (stands : Stands m t s) (k : 
   abbrev at : core.Stage
   at = stage_at t k
 
-  abbrev sits
-  sits = stands.sits k (omega (arith, known, stands.sized))
-
   has : IsSome its
   has = has_txn m t s stands k known some
 
@@ -55,3 +52,38 @@ module _ (m : Setting) (t : Tables) (s : Sessions) (stands : Stands m t s) (k : 
 
   same_pending : (f : Txn → Txn) → ((txn : Txn) → (f txn).id ≡ txn.id) → (txn : Option Txn) → pending_by s.history (option_map f txn) ≡ pending_by s.history txn
   same_pending f same txn = grind (arith, nat_tests, same)
+
+  pub save_keeps : (after : Table) (number : ℕ) → is_over (seat_at s.seats k).stage ≡ false → ChangesOnly t.table after (k + 1) (option_map (after_save number) its)
+      → Stands m (moved_to t after t.needs t.stacks k Idle) (saved s k number)
+  save_keeps after number going only =
+      let old = stands.sits k (omega (arith, known, stands.sized)) in
+      let now = accounted idle (after_save number) (λ txn. (refl, refl, refl, refl)) its (rw old.seat_is at going) refl old.accounted in
+      rw old.seat_is (rw (seat_is its has old.accounted) (sits_keep m t s stands k known after t.stacks (option_map (after_save number) its) Idle
+      (same_id (after_save number) (λ txn. refl) its) only (record { here = old.stacked ∙ ap (map noted_of) (sym (same_pending (after_save number) (λ txn. refl) its)); others = λ j apart. refl }) now tt))
+    where
+      seat_is : (txn : Option Txn) → IsSome txn → Accounts s.history at txn
+          → record (seat_from txn at) {
+            stage = idle;
+            saves = record { number = number; value = last_of (pending_of s.history (seat_from txn at).txn) } ∷ dropped (seat_from txn at).saves number;
+          } ≡ seat_from (option_map (after_save number) txn) idle
+      seat_is txn has at = grind (arith, nat_tests, dropped_is, at)
+
+  pub rewind_keeps : (after : Table) (number : ℕ) (lsn : Lsn) → is_over (seat_at s.seats k).stage ≡ false → ChangesOnly t.table after (k + 1) (option_map (after_back number) its)
+      → Stands m (moved_to t after t.needs t.stacks k (Rolls (aims.Back number lsn))) (rewound s k number lsn.0)
+  rewind_keeps after number lsn going only =
+      let old = stands.sits k (omega (arith, known, stands.sized)) in
+      let now = accounted (rolls (returns number lsn.0)) (after_back number) (λ txn. (refl, refl, refl, refl)) its (rw old.seat_is at going) refl old.accounted in
+      rw old.seat_is (rw (seat_is its) (sits_keep m t s stands k known after t.stacks (option_map (after_back number) its) (Rolls (aims.Back number lsn))
+      (same_id (after_back number) (λ txn. refl) its) only (record { here = old.stacked ∙ ap (map noted_of) (sym (same_pending (after_back number) (λ txn. refl) its)); others = λ j apart. refl }) now tt))
+    where
+      seat_is : (txn : Option Txn)
+          → record (seat_from txn at) { stage = rolls (returns number lsn.0); saves = upto (seat_from txn at).saves number }
+          ≡ seat_from (option_map (after_back number) txn) (rolls (returns number lsn.0))
+      seat_is txn = grind (arith, nat_tests, upto_is)
+
+  -- a savepoint that is there has a place in the table
+  pub has_place : (number : ℕ) (lsn : Lsn) → saved_in (seat_at s.seats k).saves number ≡ Some lsn → ForSome its (λ txn. IsSome (place_of number txn.saves))
+  has_place number lsn there txn txn_is =
+      let old = stands.sits k (omega (arith, known, stands.sized)) in
+      let saves : saved_in (saves_of txn.saves) number ≡ Some lsn = rw (old.seat_is, txn_is) at there in
+      subst IsSome (sym (place_is txn.saves number ∙ saves)) refl

@@ -140,7 +140,7 @@ module _ (m : Setting) (t : Tables) (s : Sessions) (stands : Stands m t s) (k : 
     kept = v.kept;
   }
     where
-      abbrev after : Tables
+      after : Tables
       after = moved_to t table left stacks k stage
 
       seat : Seat

@@ -1,118 +1,152 @@
 -- The tables stand for the sessions after a change is undone.
-use Rattle.rm_desk.proofs.Names.{◌≡◌, ℕ, ◌+◌, ◌≤◌, ◌<◌, inl, false, List, [], ◌∷◌, Option, Some, None, IfSome, option_map, slice_set, refl, sym, ap}
-use Rattle.rm_desk.proofs.Names.{subst, ◌∙◌, arith, nat_tests, ForSome, Lsn, TxnId, MAX_SESSIONS, row_length, Change, Undo, History, undoes}
-use Rattle.rm_desk.proofs.Names.{AreChained, need_of, need_for, on_page, FitsOn, pending_of, NeedsAreLogged, IsInOrder, undo_for, last_is_of, needs_go_on}
-use Rattle.rm_desk.proofs.Names.{need_of-undo_other, pending_of-undo, pending_on-undo, pending_is_chained, pending-undo_other, staged, TXN_BYTES, bytes_for}
-use Rattle.rm_desk.proofs.Names.{Seat, seat_at, Reserved, need_in, HasEntry, HasRoom, Txn, OWED, Table, txn_of, ChangesOnly, HasId, HaveOwnIds, after_pop}
-use Rattle.rm_desk.proofs.Names.{LastChange, Stage, stage_of, Sessions, is_over, seat_from, stage_at, goes, undoing, IsLastOf, IsOn, IsAccounted, Accounts}
+use Rattle.rm_desk.proofs.Names.{◌≡◌, ℕ, ◌+◌, ◌≤◌, ◌<◌, inl, false, true, List, [], ◌∷◌, map, length, Option, Some, None, IfSome, option_map, slice_set, refl, sym, ap}
+use Rattle.rm_desk.proofs.Names.{subst, ◌∙◌, arith, nat_tests, ForSome, Lsn, TxnId, row_length, Change, Undo, History, undoes, newest_lsn, Slot, CAPACITY}
+use Rattle.rm_desk.proofs.Names.{need_of, need_for, on_page, others_need, FitsOn, pending_of, undo_for, last_is_of, used, set_slot, page_of, undo_fits}
+use Rattle.rm_desk.proofs.Names.{need_of-undo_other, pending_of-undo, pending_on-undo, pending-undo_other, staged, TXN_BYTES, bytes_for, rolls}
+use Rattle.rm_desk.proofs.Names.{Seat, seat_at, Reserved, need_in, HasEntry, HasRoom, Txn, OWED, Table, txn_of, ChangesOnly, HasId, after_pop, Setting, Sessions, Tables}
+use Rattle.rm_desk.proofs.Names.{Stage, Rolls, Aim, aim_with, is_over, seat_from, pending_by, stage_at, goes, undone, IsOn, IsAccounted, Accounts, AreKept, StackValue, PendingChange}
+use Rattle.rm_desk.proofs.Names.{stack_at, SetsStack, noted_of, first_of, rest_of, top_of, newest_in, Op, Unbound, slice_index_or}
+use Rattle.std.proofs.lemmas.Bool.{leb-true}
+use Rattle.rm_model.proofs.Slots.{used-set_slot}
+use Rattle.rm_core.specs.Names as core
 use Rattle.rm_desk.specs.Desks.{Stands}
-use Rattle.rm_desk.proofs.Standing.{only_now, moved, has_txn, IsIdOf, is_id_of, seat_id, apart_from}
+use Rattle.rm_desk.proofs.Keeping.{undo_kept, undo_fits_on}
+use Rattle.rm_desk.proofs.Standing.{with_op, moved_to, moved, only_now, own_id, seat_now, has_txn, pending_is, IsIdOf, is_id, elsewhere, stage_is}
+use Rattle.rm_desk.proofs.Looking.{newest_is, under_is}
 use Rattle.rm_desk.proofs.Changing.{has_room, Sets}
 
--- the last pending change of the session's transaction, which is as its record says
-pub record Last (table : Table) (s : Sessions) (k id lsn : ℕ) (known : LastChange) : Type 0 where
-  pub last : Change
-  pub rest : List Change
-  pub is : pending_of s.history last.txn ≡ last ∷ rest
-  pub own : IsIdOf table k last.txn
-  pub txn : last.txn ≡ id
-  pub page : last.rid.page ≡ known.page
-  pub need : last.need ≡ known.need
-  pub under : last.under ≡ known.under.0
-  pub before : row_length last.before ≡ known.before
-  pub order : IsInOrder s.history
-  pub fits : FitsOn (undoes (undo_for lsn last) ∷ s.history) last.rid.page
-  pub undoing_is : undoing lsn (pending_of s.history (seat_at s.seats k).txn) s.history ≡ undoes (undo_for lsn last) ∷ s.history
+module _ (m : Setting) (t : Tables) (s : Sessions) (stands : Stands m t s) (k : ℕ) (known : k < length s.seats) where
+  -- the newest pending change of the session's transaction, as it is kept, and the row that its undo puts back
+  pub record Last (id : ℕ) (found : PendingChange) (back : Slot) : Type 0 where
+    pub last : Change
+    pub rest : List Change
+    pub pending : pending_of s.history (seat_at s.seats k).txn ≡ last ∷ rest
+    pub own : IsIdOf m t s stands k known last.txn
+    pub txn : last.txn ≡ id
+    pub found_is : found ≡ noted_of last
+    pub chain : AreKept m.pages (last ∷ rest)
+    pub room : used (set_slot (page_of s.history last.rid.page) last.rid.slot back) + others_need s.history last.txn last.rid.page + last.need ≤ CAPACITY
 
-pub last_at : (table : Table) (needs : Reserved) (stages : List Stage) (s : Sessions) → Stands table needs stages s → (k : ℕ) → k < MAX_SESSIONS → ((seat_at s.seats k).txn ≡ 0 → ⊥)
-    → (id : TxnId) → IfSome (txn_of table (k + 1)) (λ txn. id ≡ txn.id) → HaveOwnIds table → (lsn : ℕ) (known : LastChange)
-    → IsLastOf (pending_of s.history (seat_at s.seats k).txn) known → IsInOrder (undoing lsn (pending_of s.history (seat_at s.seats k).txn) s.history) → Last table s k id.0 lsn known
-last_at table needs stages s stands k among some id value ids lsn known last order = by (pending_of s.history (seat_at s.seats k).txn) refl last order
-  where
-    own : IsIdOf table k id.0
-    own = is_id_of table k id (has_txn table needs stages s stands k among some) value ids
-
-    at : (seat_at s.seats k).txn ≡ id.0
-    at = seat_id table needs stages s stands k among id.0 own
-
-    by : (pending : List Change) → pending_of s.history (seat_at s.seats k).txn ≡ pending → IsLastOf pending known → IsInOrder (undoing lsn pending s.history)
-        → Last table s k id.0 lsn known
-    by [] is last order = absurd last
-    by (c ∷ rest) is last order =
-        let mine : c.txn ≡ (seat_at s.seats k).txn = last_is_of s.history (seat_at s.seats k).txn c rest is in record {
-          last = c;
-          rest = rest;
-          is = ap (pending_of s.history) mine ∙ is;
-          own = subst (IsIdOf table k) (sym (mine ∙ at)) own;
-          txn = mine ∙ at;
-          page = last.0;
-          need = last.1;
-          under = last.2;
-          before = last.3;
-          order = order.0;
-          fits = order.1.fits c.rid.page;
-          undoing_is = ap (λ (l : List Change). undoing lsn l s.history) is;
-        }
-
-module _ (table : Table) (needs : Reserved) (stages : List Stage) (s : Sessions) (stands : Stands table needs stages s) (k : ℕ) (among : k < MAX_SESSIONS)
-    (last : Change) (rest : List Change) (is : pending_of s.history last.txn ≡ last ∷ rest) (own : IsIdOf table k last.txn) (order : IsInOrder s.history) (lsn : ℕ) where
-  abbrev undo : Undo
-  undo = undo_for lsn last
-
-  abbrev after : History
-  after = undoes undo ∷ s.history
-
-  need_after : last.need ≡ need_of after last.txn last.rid.page
-  need_after =
-      let logged : NeedsAreLogged (last ∷ rest) = subst NeedsAreLogged is (needs_go_on.logged s.history order last.txn) in
-      logged.0 ∙ sym (ap (λ (l : List Change). need_for (on_page last.rid.page l)) (pending_of-undo s.history undo last rest is))
-
-  pub undo_room : FitsOn after last.rid.page → HasRoom needs last.rid.page last.txn last.need
-  undo_room fits = has_room needs after last.rid.page last.txn last.need need_after
-      (λ other differs. stands.needed last.rid.page other ∙ sym (need_of-undo_other s.history undo other last.rid.page (λ same. differs (sym same)))) fits
-
-  pub undo_entry : HasEntry needs last.rid.page last.txn
-  undo_entry = stands.there last.rid.page last.txn (subst (λ (l : List Change). IsOn l last.rid.page) (sym is) (inl refl))
-
-  -- what the transaction owes
-  owes : (txn : Txn) → txn.id.0 ≡ last.txn → is_over (stage_at stages k) ≡ false → IsAccounted s.history (stage_at stages k) txn → TXN_BYTES + bytes_for (last ∷ rest) ≡ txn.owed
-  owes txn has going at = let pending : pending_of s.history txn.id.0 ≡ last ∷ rest = ap (pending_of s.history) has ∙ is in sym (rw (going, pending) at at.owed)
-
-  pub undo_owes : (before : ℕ) → row_length last.before ≡ before → is_over (seat_at s.seats k).stage ≡ false → ForSome (txn_of table (k + 1)) (λ txn. OWED + OWED + before ≤ txn.owed)
-  undo_owes before before_is going txn txn_is =
-      let owed = owes txn (rw txn_is at own.has) (rw (stands.seated k among, txn_is) at going) (rw txn_is at (stands.accounted k among)) in omega (arith, owed, before_is)
-
-  pub undo_keeps : (next : Table) (left : Reserved) (under : Lsn) (before : ℕ) (stage : Stage) → last.under ≡ under.0 → row_length last.before ≡ before
-      → is_over (seat_at s.seats k).stage ≡ false → is_over (stage_of stage) ≡ false → Sets needs left last.rid.page last.txn last.need
-      → ChangesOnly table next (k + 1) (option_map (after_pop under before) (txn_of table (k + 1)))
-      → Stands next left (slice_set stages k stage) (goes (record s { history = after }) k (stage_of stage))
-  undo_keeps next left under before stage under_is before_is going over sets only =
-      rw (ap (λ (at : Seat). staged at (stage_of stage)) (stands.seated k among) ∙ seat_is (txn_of table (k + 1)))
-      (moved table next needs left stages s k (option_map (after_pop under before) (txn_of table (k + 1))) stage after s.next (record {
-        stands = stands;
-        among = among;
-        only = only_now table next (k + 1) s.next (option_map (after_pop under before) (txn_of table (k + 1))) stands.next only;
-        more = omega (arith, stands.next);
-        others = λ j other apart has. pending-undo_other undo s.history other (apart_from table k last.txn own j other apart has);
-        accounted = accounted (txn_of table (k + 1)) own.has (rw (stands.seated k among) at going) (stands.accounted k among);
-        needed = needed;
-        there = there;
-      }))
+  pub last_at : (id : ℕ) (found : PendingChange) (back : Slot) → IsIdOf m t s stands k known id → Some found ≡ first_of (stack_at t.stacks k).changes
+      → undo_fits s.history (pending_of s.history (seat_at s.seats k).txn) ≡ true
+      → IfSome (newest_in (pending_of s.history (seat_at s.seats k).txn)) (λ last. row_length back ≡ last.before) → Last id found back
+  last_at id found back own is fits length_is =
+      by (pending_of s.history (seat_at s.seats k).txn) refl fits length_is (stands.kept.chained (seat_at s.seats k).txn)
+      (newest_is m t s stands k known some (Some found) is).0
     where
-      seat_is : (txn : Option Txn) → staged (seat_from txn (stage_at stages k)) (stage_of stage) ≡ seat_from (option_map (after_pop under before) txn) (stage_of stage)
-      seat_is txn = grind (arith, nat_tests)
+      some : (seat_at s.seats k).txn ≡ 0 → ⊥
+      some none = omega (arith, own.is, own.given.0, none)
 
-      accounted : (txn : Option Txn) → HasId txn last.txn → is_over (seat_from txn (stage_at stages k)).stage ≡ false → Accounts s.history (stage_at stages k) txn
-          → Accounts after (stage_of stage) (option_map (after_pop under before) txn)
-      accounted None has going at = tt
-      accounted (Some txn) has going at =
-          let pending : pending_of after txn.id.0 ≡ rest = ap (pending_of after) has ∙ pending_of-undo s.history undo last rest is in
-          let chained : AreChained (last ∷ rest) = subst AreChained is (pending_is_chained s.history order last.txn) in
-          let owed = owes txn has going at in
-          record { some = at.some; undo = rw pending (sym under_is ∙ chained.0); owed = rw (over, pending) (omega (arith, owed, before_is)); over = at.over ∙ going ∙ sym over }
+      by : (pending : List Change) → pending_of s.history (seat_at s.seats k).txn ≡ pending → undo_fits s.history pending ≡ true
+          → IfSome (newest_in pending) (λ last. row_length back ≡ last.before) → AreKept m.pages pending → Some found ≡ newest_in pending → Last id found back
+      by [] pending fits length_is chain found_is = absurd cc
+      by (last ∷ rest) pending fits length_is chain found_is =
+          let mine : last.txn ≡ (seat_at s.seats k).txn = last_is_of s.history (seat_at s.seats k).txn last rest pending in record {
+            last = last;
+            rest = rest;
+            pending = pending;
+            own = subst (IsIdOf m t s stands k known) (sym (mine ∙ own.is)) own;
+            txn = mine ∙ own.is;
+            found_is = cc;
+            chain = chain;
+            room =
+                let slots : List Slot = page_of s.history last.rid.page in
+                omega (arith, leb-true _ _ fits, used-set_slot slots last.rid.slot back, used-set_slot slots last.rid.slot last.before, length_is);
+          }
 
-      needed : (page id : ℕ) → need_in left page id ≡ need_of after id page
-      needed page id = grind (arith, nat_tests, sets, stands.needed, need_after, pending_on-undo, need_of-undo_other)
+  module _ (id : ℕ) (found : PendingChange) (back : Slot) (l : Last id found back) where
+    abbrev last : Change
+    last = l.last
 
-      there : (page id : ℕ) → IsOn (pending_of after id) page → HasEntry left page id
-      there page id on = grind (arith, nat_tests, sets, stands.there, is, pending_of-undo, pending-undo_other)
+    abbrev its : Option Txn
+    its = txn_of t.table (k + 1)
+
+    abbrev at : core.Stage
+    at = stage_at t k
+
+    pending : pending_of s.history last.txn ≡ last ∷ l.rest
+    pending = ap (pending_of s.history) (sym l.own.is) ∙ l.pending
+
+    abbrev undo : ℕ → Undo
+    undo lsn = undo_for lsn (record last { before = back })
+
+    need_after : (lsn : ℕ) → last.need ≡ need_of (undoes (undo lsn) ∷ s.history) last.txn last.rid.page
+    need_after lsn = l.chain.0.need ∙ sym (ap (λ (p : List Change). need_for (on_page last.rid.page p)) (pending_of-undo s.history (undo lsn) last l.rest pending))
+
+    fits : (lsn : ℕ) → FitsOn (undoes (undo lsn) ∷ s.history) last.rid.page
+    fits lsn = undo_fits_on s.history (undo lsn) last l.rest pending refl (omega (arith, l.room, need_after lsn, used_is lsn))
+      where
+        used_is : (lsn : ℕ) → used (page_of (undoes (undo lsn) ∷ s.history) last.rid.page) ≡ used (set_slot (page_of s.history last.rid.page) last.rid.slot back)
+        used_is lsn = grind (arith, nat_tests)
+
+    pub undo_room : HasRoom t.needs last.rid.page last.txn last.need
+    undo_room = has_room t.needs (undoes (undo 0) ∷ s.history) last.rid.page last.txn last.need (need_after 0)
+        (λ other differs. stands.needed last.rid.page other ∙ sym (need_of-undo_other s.history (undo 0) other last.rid.page (λ same. differs (sym same)))) (fits 0)
+
+    pub undo_entry : HasEntry t.needs last.rid.page last.txn
+    undo_entry = stands.there last.rid.page last.txn (subst (λ (p : List Change). IsOn p last.rid.page) (sym pending) (inl refl))
+
+    -- what the transaction owes
+    owes : (txn : Txn) → txn.id.0 ≡ last.txn → is_over at ≡ false → IsAccounted s.history at txn → TXN_BYTES + bytes_for (last ∷ l.rest) ≡ txn.owed
+    owes txn has going is = let its : pending_of s.history txn.id.0 ≡ last ∷ l.rest = ap (pending_of s.history) has ∙ pending in sym (rw (going, its) at is.owed)
+
+    pub undo_owes : is_over (seat_at s.seats k).stage ≡ false → ForSome its (λ txn. OWED + OWED + row_length last.before ≤ txn.owed)
+    undo_owes going txn txn_is =
+        let old = stands.sits k (omega (arith, known, stands.sized)) in
+        let owed = owes txn (rw txn_is at l.own.has) (ap is_over (sym (stage_is m t s stands k known)) ∙ going) (rw txn_is at old.accounted) in omega (arith, owed)
+
+    pub undo_keeps : (next : Table) (left : Reserved) (stacks : List StackValue) (lsn under : Lsn) (aim : Aim) → newest_lsn s.history < lsn.0 → under.0 ≡ last.under
+        → is_over (seat_at s.seats k).stage ≡ false → Sets t.needs left last.rid.page last.txn last.need
+        → ChangesOnly t.table next (k + 1) (option_map (after_pop under (row_length last.before)) its)
+        → SetsStack t.stacks stacks k (rest_of (stack_at t.stacks k).changes)
+        → Stands m (moved_to t next left stacks k (Rolls aim))
+        (undone s k (aim_with (slice_index_or t.ops k Unbound) aim) lsn.0 back (pending_of s.history (seat_at s.seats k).txn))
+    undo_keeps next left stacks lsn under aim above under_is going sets only stacked =
+        let old = stands.sits k (omega (arith, known, stands.sized)) in
+        let txn = option_map (after_pop under (row_length last.before)) its in
+        let going_at : is_over at ≡ false = ap is_over (sym (stage_is m t s stands k known)) ∙ going in
+        let stack : (stack_at t.stacks k).changes ≡ map noted_of (last ∷ l.rest) = old.stacked ∙ ap (map noted_of) (pends its l.own.has) in
+        rw (l.pending, seat_now m t s stands k known (with_op t k (Rolls aim)) ∙ seat_is its)
+        (moved m t s stands k known next left stacks txn (Rolls aim) after s.next (record {
+          only = only_now m t s stands k known next txn only;
+          more = omega (arith, stands.next);
+          own = own_id m t s stands k known txn (same its);
+          others = λ j other apart has. pending-undo_other (undo lsn.0) s.history other (elsewhere m t s stands k known last.txn l.own j other apart has);
+          stacks_are = record { here = stacked.here ∙ ap rest_of stack ∙ ap (map noted_of) (sym (left_is its l.own.has)); others = stacked.others };
+          accounted = accounted its l.own.has going_at old.accounted;
+          of_file = tt;
+          needed = needed;
+          there = there;
+          kept = undo_kept s.history (undo lsn.0) last l.rest pending refl m.pages s.next l.own.given.1 above (fits lsn.0) stands.kept;
+        }))
+      where
+        after : History
+        after = undoes (undo lsn.0) ∷ s.history
+
+        seat_is : (txn : Option Txn) → seat_from txn (with_op t k (Rolls aim)) ≡ seat_from (option_map (after_pop under (row_length last.before)) txn) (with_op t k (Rolls aim))
+        seat_is txn = grind (arith, nat_tests)
+
+        same : (txn : Option Txn) (id : ℕ) → HasId (option_map (after_pop under (row_length last.before)) txn) id → HasId txn id
+        same txn id has = grind (arith, nat_tests)
+
+        pends : (txn : Option Txn) → HasId txn last.txn → pending_by s.history txn ≡ last ∷ l.rest
+        pends None has = absurd has
+        pends (Some txn) has = ap (pending_of s.history) has ∙ pending
+
+        left_is : (txn : Option Txn) → HasId txn last.txn → pending_by after (option_map (after_pop under (row_length last.before)) txn) ≡ l.rest
+        left_is None has = absurd has
+        left_is (Some txn) has = ap (pending_of after) has ∙ pending_of-undo s.history (undo lsn.0) last l.rest pending
+
+        accounted : (txn : Option Txn) → HasId txn last.txn → is_over at ≡ false → Accounts s.history at txn
+            → Accounts after (with_op t k (Rolls aim)) (option_map (after_pop under (row_length last.before)) txn)
+        accounted None has going is = tt
+        accounted (Some txn) has going is =
+            let rest : pending_of after txn.id.0 ≡ l.rest = left_is (Some txn) has in
+            let owed = owes txn has going is in
+            record { some = is.some; undo = rw rest (under_is ∙ l.chain.0.under); owed = rw rest (omega (arith, owed)); over = is.over ∙ going }
+
+        needed : (page id : ℕ) → need_in left page id ≡ need_of after id page
+        needed page id = grind (arith, nat_tests, sets, stands.needed, need_after lsn.0, pending, pending_on-undo, need_of-undo_other)
+
+        there : (page id : ℕ) → IsOn (pending_of after id) page → HasEntry left page id
+        there page id on = grind (arith, nat_tests, sets, stands.there, pending, pending_of-undo, pending-undo_other)

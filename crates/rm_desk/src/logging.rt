@@ -121,7 +121,8 @@ impl Desk {
         if let Some(last) = self.stacks[k as usize].newest() {
             let txn = id_of(&self.txns, k);
             self.needs.restore(last.rid.page, txn, last.need);
-            self.txns.pop(k + 1, self.stacks[k as usize].under(), last.before);
+            let under = self.stacks[k as usize].under();
+            self.txns.pop(k + 1, under, last.before);
             pop(&mut self.stacks, k);
             self.sessions = Noted::of(&(&self.sessions, &self.ops, k, aim, lsn));
             set(&mut self.stages, k, Stage::Rolls(aim));

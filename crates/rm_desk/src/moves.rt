@@ -1,6 +1,6 @@
 //! What a session does without a log record.
 
-ghost use Rattle.std.specs.Prelude.{◌≡◌, ◌<◌, ◌≤◌, ◌^◌, slice_set, false, None, Some, IfSome, IsSome, OnOk, OnErr};
+ghost use Rattle.std.specs.Prelude.{◌≡◌, ◌+◌, ◌<◌, ◌≤◌, ◌^◌, slice_set, false, None, Some, IfSome, IsSome, OnOk, OnErr};
 ghost use Rattle.rm_types.specs.declared.numbers.TheConstants.{MAX_SESSIONS};
 ghost use Rattle.rm_core.specs.Names.{IsInside, begin, finish, idle, save, target};
 ghost use Rattle.rm_play.specs.Choosing.{blocker};

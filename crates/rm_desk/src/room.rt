@@ -1,6 +1,6 @@
 //! Room on a page, whose slots are given, and in the log.
 
-ghost use Rattle.std.specs.Prelude.{◌≡◌, ℕ, ◌+◌, ◌*◌, ◌-◌, ◌<◌, ◌≤◌, nat_le, max, length, Some, IfSome};
+ghost use Rattle.std.specs.Prelude.{◌≡◌, ℕ, ◌+◌, ◌*◌, ◌-◌, ◌<◌, ◌≤◌, ◌^◌, nat_le, max, length, Some, IfSome};
 ghost use Rattle.rm_types.specs.declared.slots.Slot.{Slot as Slots};
 ghost use Rattle.rm_types.specs.declared.slots.TheConstants.{CAPACITY, SLOT_ENTRY};
 ghost use Rattle.rm_core.specs.Below.{growth_for, page_of, row_length, set_slot, unreserved, used};

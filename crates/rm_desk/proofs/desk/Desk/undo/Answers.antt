@@ -1,8 +1,5 @@
-use Rattle.rm_desk.proofs.Standing.{has_txn, undo_is}
+use Rattle.rm_desk.proofs.Looking.{last_is}
 use Rattle.rm_desk.proofs.desk.Desk.undo.Goals as goal
 
-pub undo-requires-clause-has : goal.undo-requires-clause-has
-undo-requires-clause-has c = has_txn _ _ _ _ c.self.invariant _ c.requires.known (rw (← c.self.view_is) at c.requires.some)
-
 pub returns : goal.returns
-returns c = rw (← c.self.view_is) (undo_is _ _ _ _ c.self.invariant _ c.requires.known _ (rw (← c.self.view_is) at c.requires.some) c.undo.ensures)
+returns c = rw (← c.self.view_is) (last_is _ _ _ c.self.invariant _ (rw (← c.self.view_is) at c.requires.known) (rw (← c.self.view_is) at c.requires.active) _ c.last.ensures)

@@ -1,0 +1,7 @@
+use Rattle.rm_desk.proofs.Names.{prepared, aim_with, pending_of, seat_at, slice_index_or, Unbound}
+use Rattle.rm_desk.proofs.desk.Desk.prepared.Given as goal
+
+abbrev pub ghost-of : goal.ghost-of
+ghost-of a = 
+    prepared a._from.now.2 a._from.now.0.now a._from.now.3 (aim_with (slice_index_or a._from.now.1.now a._from.now.3 Unbound) a._from.now.4) a._from.now.5.0
+    (pending_of a._from.now.0.now.history (seat_at a._from.now.0.now.seats a._from.now.3).txn)
