@@ -6,6 +6,12 @@ use Rattle.rm_desk.proofs.Names.{staged, Seat, seat_at, Reserved, need_in, HasEn
 use Rattle.rm_desk.proofs.Names.{after_push, Stage, Setting, Sessions, Tables, is_over, IsOfFile, seat_from, pending_by, stage_at, goes, logged, IsOn, Accounts, Goes, MAX_SLOT}
 use Rattle.rm_desk.proofs.Names.{StackValue, PendingChange, stack_at, SetsStack, noted_of, owed_in, owed_by, bytes_for, TXN_BYTES, page_of, used, Rid, Slot, Vacant, Row, slot_at}
 use Rattle.rm_desk.proofs.Names.{State, slot_for, new_slot, row_in, length_in, Op, fitting_is_room, change_of}
+use Rattle.rm_desk.proofs.Names.{unwrap_or, asked_by, last_of, ForSome, OWED, ◌^◌}
+use Rattle.std.specs.Prelude.{nat_le}
+use Rattle.rm_core.specs.Names.{end_of, CHANGE_COST}
+use Rattle.rm_txns.specs.Tables.{owed_by as total_of}
+use Rattle.rm_events.specs.declared.operations.Op.TheVariants as ops
+use Rattle.rm_ops.specs.Looking.{new_len_of}
 use Rattle.std.proofs.lemmas.Bool.{leb-true}
 use Rattle.rm_model.proofs.Slots.{length_within}
 use Rattle.rm_core.specs.Names as core
@@ -31,6 +37,30 @@ pub record Sets (needs left : Reserved) (page txn need : ℕ) : Type 0 where
   pub here : need_in left page txn ≡ need
   pub elsewhere : (at by : ℕ) → IsOther at by page txn → need_in left at by ≡ need_in needs at by
   pub entries : (at by : ℕ) → HasEntry left at by ↔ HasEntry needs at by
+
+-- a change as it is kept
+noted_is : (c : Change) (lsn : Lsn) (need before : ℕ) → c.lsn ≡ lsn.0 → row_length c.before ≡ before → need ≡ c.need
+    → record { lsn = lsn; rid = c.rid; need = need; before = before } ≡ noted_of c
+noted_is c lsn need before l b n = rw (l, b, n) refl
+
+pub new_length_is : (op : Op) → unwrap_or (new_len_of (asked_by op)) 0 ≡ row_length (new_slot op)
+new_length_is (ops.Update rid row) = refl
+new_length_is other = refl
+
+-- a session that changes a slot has no commit record
+pub sets_open : (m : Setting) (t : Tables) (s : Sessions) → Stands m t s → (k : ℕ) → k < length s.seats → (rid : Rid) (new : Slot)
+    → (seat_at s.seats k).stage ≡ core.sets rid new → is_over (seat_at s.seats k).stage ≡ false
+sets_open m t s stands k known rid new is = ap is_over is
+
+pub tries_open : (m : Setting) (t : Tables) (s : Sessions) → Stands m t s → (k : ℕ) → k < length s.seats → (row : List ℕ) (page : ℕ)
+    → (seat_at s.seats k).stage ≡ core.tries row page → is_over (seat_at s.seats k).stage ≡ false
+tries_open m t s stands k known row page is = ap is_over is
+
+pub is_open : (m : Setting) (t : Tables) (s : Sessions) → Stands m t s → (k : ℕ) → k < length s.seats → is_over (seat_at s.seats k).stage ≡ false
+    → ForSome (txn_of t.table (k + 1)) (λ txn. txn.committed ≡ false)
+is_open m t s stands k known going txn is =
+    let old = stands.sits k (omega (arith, known, stands.sized)) in
+    (rw is at old.accounted).over ∙ ap is_over (sym (stage_is m t s stands k known)) ∙ going
 
 -- ---- which changes fit
 
@@ -91,6 +121,20 @@ module _ (m : Setting) (t : Tables) (s : Sessions) (stands : Stands m t s) (k : 
       owes : (seat : Seat) → seat.txn ≡ c.txn → is_over seat.stage ≡ false → owed_by after (staged seat stage) ≡ owed_by s.history seat + (TXN_BYTES + row_length c.before)
       owes seat is going = grind (arith, nat_tests, own.given, pending-change c s.history)
 
+  pub change_goes : c.under ≡ last_of (pending_of s.history c.txn) → c.need ≡ need_of s.history c.txn c.rid.page → newest_lsn s.history < c.lsn → c.rid.page < m.pages → Fits after
+      → Goes m.pages c (pending_of s.history c.txn)
+  change_goes under need above inside fits = record {
+    under = under;
+    falls = omega (arith, stands.kept.below c.txn, above);
+    need = need;
+    inside = (inside, slot_inside s.history c fits);
+  }
+
+  -- what all owe then is within the limit of the log
+  pub push_room : (stage : core.Stage) (before : ℕ) → is_over (seat_at s.seats k).stage ≡ false → is_over stage ≡ false → row_length c.before ≡ before
+      → nat_le (end_of after + CHANGE_COST + owed_in (goes (logged s (changes c)) k stage)) m.limit ≡ true → total_of t.table + OWED + before ≤ 2 ^ 63
+  push_room stage before going over before_is room = omega (arith, leb-true _ _ room, change_owes stage going over, stands.owes, stands.bounds.1, before_is)
+
   pub change_keeps : (next : Table) (left : Reserved) (stacks : List StackValue) (lsn : Lsn) (need before : ℕ) (stage : Stage) → c.lsn ≡ lsn.0 → row_length c.before ≡ before
       → need ≡ need_in t.needs c.rid.page c.txn → c.need ≡ need_of s.history c.txn c.rid.page → Goes m.pages c (pending_of s.history c.txn) → Fits after
       → newest_lsn s.history < c.lsn → is_over (seat_at s.seats k).stage ≡ false → is_over (with_op t k stage) ≡ false → IsOfFile m.pages (with_op t k stage)
@@ -102,7 +146,7 @@ module _ (m : Setting) (t : Tables) (s : Sessions) (stands : Stands m t s) (k : 
       let old = stands.sits k (omega (arith, known, stands.sized)) in
       let txn = option_map (after_push lsn before) its in
       let going_at : is_over at ≡ false = ap is_over (sym (stage_is m t s stands k known)) ∙ going in
-      let noted : record { lsn = lsn; rid = c.rid; need = need; before = before } ≡ noted_of c = cc (stands.needed c.rid.page c.txn, lsn_is, before_is, need_is, logged_need) in
+      let noted = noted_is c lsn need before lsn_is before_is (need_is ∙ stands.needed c.rid.page c.txn ∙ sym logged_need) in
       rw (seat_now m t s stands k known (with_op t k stage) ∙ seat_is its)
       (moved m t s stands k known next left stacks txn stage after s.next (record {
         only = only_now m t s stands k known next txn only;

@@ -89,6 +89,9 @@ not_held grants txn rid free = by (blocker grants txn rid true) (blocker_is_leas
     by None least = refl
     by (Some other) least = absurd (free (other, least.0.0, least.0.1))
 
+pub slot_free : (s : State) (seat : Seat) (rid : Rid) → rid.slot ≡ slot_for s seat rid.page → blocker s.grants seat.txn rid true ≡ None
+slot_free s seat rid is = not_held s.grants seat.txn rid (rw is (slot_is_for_row s seat rid.page).free)
+
 -- ---- a lock more
 
 -- the locks with one more are these and that one

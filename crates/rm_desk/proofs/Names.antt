@@ -44,7 +44,7 @@ pub use Rattle.rm_types.specs.declared.numbers.TheConstants.{MAX_SESSIONS, MAX_P
 pub use Rattle.rm_types.specs.declared.numbers.TxnId.{TxnId}
 pub use Rattle.std.proofs.Common.{◌≡◌, ◌≤◌, ℕ, ◌↔◌, ◌⊎◌, inl, inr, Bool, true, false, IsTrue, if◌then◌else◌, eqb, List, [], ◌∷◌, Option, Some, None, is_some}
 pub use Rattle.std.proofs.Common.{unwrap_or, IfSome, IfNone, refl, sym, subst, arith, ◌≢◌, ◌<◌, ◌+◌, IsSome, option_map, ◌==◌, length, slice_set, ap, ◌∙◌}
-pub use Rattle.std.proofs.Common.{◌-◌, find, map, zero, suc, slice_index_or}
+pub use Rattle.std.proofs.Common.{◌-◌, ◌^◌, find, map, zero, suc, slice_index_or}
 pub use Rattle.std.proofs.lemmas.Bool.{eqb-true, cond_both, eq-eqb, false≢true, cases_lt, cases_eq, ne_eqb}
 pub use Rattle.std.proofs.lemmas.Bool.Decides.{nat_tests}
 pub use Rattle.std.proofs.lemmas.List.{length-set, get_or-set_same, get_or-set_other, get_or_past}

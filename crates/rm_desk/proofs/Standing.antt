@@ -216,6 +216,12 @@ module _ (m : Setting) (t : Tables) (s : Sessions) (stands : Stands m t s) (k : 
       by : (txn : Option Txn) → IsSome txn → IfSome txn (λ txn. id ≡ txn.id) → HasId txn id.0
       by txn some is = grind (arith, nat_tests)
 
+  pub own_of : ((seat_at s.seats k).txn ≡ 0 → ⊥) → IsIdOf (seat_at s.seats k).txn
+  own_of some = is_id (seat_at s.seats k).txn (rw txn_is (by its (has_txn some)))
+    where
+      by : (txn : Option Txn) → IsSome txn → HasId txn (seat_from txn at).txn
+      by txn some = grind (arith, nat_tests)
+
   pub elsewhere : (id : ℕ) → IsIdOf id → (j other : ℕ) → (j ≡ k → ⊥) → HasId (txn_of t.table (j + 1)) other → id ≡ other → ⊥
   elsewhere id own j other apart has same =
       own.apart (j + 1) (λ is. apart (omega (arith, is))) (subst (HasId (txn_of t.table (j + 1))) (sym same) has)
@@ -240,7 +246,7 @@ module _ (m : Setting) (t : Tables) (s : Sessions) (stands : Stands m t s) (k : 
   staged_is : (txn : Option Txn) (before after : core.Stage) → staged (seat_from txn before) after ≡ seat_from txn after
   staged_is txn before after = grind (arith, nat_tests)
 
-  seat_now : (stage : core.Stage) → staged (seat_at s.seats k) stage ≡ seat_from its stage
+  pub seat_now : (stage : core.Stage) → staged (seat_at s.seats k) stage ≡ seat_from its stage
   seat_now stage = ap (λ (a : Seat). staged a stage) (stands.sits k among).seat_is ∙ staged_is its at stage
 
   -- a stage alone, and maybe a record that changes nothing of what is pending

@@ -5,19 +5,19 @@ use Rattle.rm_desk.proofs.Names.{need_of, need_for, on_page, others_need, FitsOn
 use Rattle.rm_desk.proofs.Names.{need_of-undo_other, pending_of-undo, pending_on-undo, pending-undo_other, staged, TXN_BYTES, bytes_for, rolls}
 use Rattle.rm_desk.proofs.Names.{Seat, seat_at, Reserved, need_in, HasEntry, HasRoom, Txn, OWED, Table, txn_of, ChangesOnly, HasId, after_pop, Setting, Sessions, Tables}
 use Rattle.rm_desk.proofs.Names.{Stage, Rolls, Aim, aim_with, is_over, seat_from, pending_by, stage_at, goes, undone, IsOn, IsAccounted, Accounts, AreKept, StackValue, PendingChange}
-use Rattle.rm_desk.proofs.Names.{stack_at, SetsStack, noted_of, first_of, rest_of, top_of, newest_in, Op, Unbound, slice_index_or}
+use Rattle.rm_desk.proofs.Names.{stack_at, SetsStack, noted_of, first_of, rest_of, top_of, newest_in, Op, Unbound, slice_index_or, prepared, Compensates, enters, entry_for}
 use Rattle.std.proofs.lemmas.Bool.{leb-true}
 use Rattle.rm_model.proofs.Slots.{used-set_slot}
 use Rattle.rm_core.specs.Names as core
 use Rattle.rm_desk.specs.Desks.{Stands}
-use Rattle.rm_desk.proofs.Keeping.{undo_kept, undo_fits_on}
-use Rattle.rm_desk.proofs.Standing.{with_op, moved_to, moved, only_now, own_id, seat_now, has_txn, pending_is, IsIdOf, is_id, elsewhere, stage_is}
+use Rattle.rm_desk.proofs.Keeping.{undo_kept, undo_fits_on, enter_kept}
+use Rattle.rm_desk.proofs.Standing.{with_op, moved_to, moved, stays_keep, only_now, own_id, seat_now, has_txn, pending_is, IsIdOf, is_id, elsewhere, stage_is}
 use Rattle.rm_desk.proofs.Looking.{newest_is, under_is}
 use Rattle.rm_desk.proofs.Changing.{has_room, Sets}
 
 module _ (m : Setting) (t : Tables) (s : Sessions) (stands : Stands m t s) (k : ℕ) (known : k < length s.seats) where
-  -- the newest pending change of the session's transaction, as it is kept, and the row that its undo puts back
-  pub record Last (id : ℕ) (found : PendingChange) (back : Slot) : Type 0 where
+  -- the newest pending change of the session's transaction, as it is kept
+  pub record Last (id : ℕ) (found : PendingChange) : Type 0 where
     pub last : Change
     pub rest : List Change
     pub pending : pending_of s.history (seat_at s.seats k).txn ≡ last ∷ rest
@@ -25,22 +25,24 @@ module _ (m : Setting) (t : Tables) (s : Sessions) (stands : Stands m t s) (k : 
     pub txn : last.txn ≡ id
     pub found_is : found ≡ noted_of last
     pub chain : AreKept m.pages (last ∷ rest)
-    pub room : used (set_slot (page_of s.history last.rid.page) last.rid.slot back) + others_need s.history last.txn last.rid.page + last.need ≤ CAPACITY
 
-  pub last_at : (id : ℕ) (found : PendingChange) (back : Slot) → IsIdOf m t s stands k known id → Some found ≡ first_of (stack_at t.stacks k).changes
-      → undo_fits s.history (pending_of s.history (seat_at s.seats k).txn) ≡ true
-      → IfSome (newest_in (pending_of s.history (seat_at s.seats k).txn)) (λ last. row_length back ≡ last.before) → Last id found back
-  last_at id found back own is fits length_is =
-      by (pending_of s.history (seat_at s.seats k).txn) refl fits length_is (stands.kept.chained (seat_at s.seats k).txn)
-      (newest_is m t s stands k known some (Some found) is).0
+  pub none_at : (some : (seat_at s.seats k).txn ≡ 0 → ⊥) → None ≡ first_of (stack_at t.stacks k).changes → pending_of s.history (seat_at s.seats k).txn ≡ []
+  none_at some is = by (pending_of s.history (seat_at s.seats k).txn) (newest_is m t s stands k known some None is).0
+    where
+      by : (pending : List Change) → None ≡ newest_in pending → pending ≡ []
+      by [] is = refl
+      by (last ∷ rest) is = absurd cc
+
+  pub last_at : (id : ℕ) (found : PendingChange) → IsIdOf m t s stands k known id → Some found ≡ first_of (stack_at t.stacks k).changes → Last id found
+  last_at id found own is =
+      by (pending_of s.history (seat_at s.seats k).txn) refl (stands.kept.chained (seat_at s.seats k).txn) (newest_is m t s stands k known some (Some found) is).0
     where
       some : (seat_at s.seats k).txn ≡ 0 → ⊥
       some none = omega (arith, own.is, own.given.0, none)
 
-      by : (pending : List Change) → pending_of s.history (seat_at s.seats k).txn ≡ pending → undo_fits s.history pending ≡ true
-          → IfSome (newest_in pending) (λ last. row_length back ≡ last.before) → AreKept m.pages pending → Some found ≡ newest_in pending → Last id found back
-      by [] pending fits length_is chain found_is = absurd cc
-      by (last ∷ rest) pending fits length_is chain found_is =
+      by : (pending : List Change) → pending_of s.history (seat_at s.seats k).txn ≡ pending → AreKept m.pages pending → Some found ≡ newest_in pending → Last id found
+      by [] pending chain found_is = absurd cc
+      by (last ∷ rest) pending chain found_is =
           let mine : last.txn ≡ (seat_at s.seats k).txn = last_is_of s.history (seat_at s.seats k).txn last rest pending in record {
             last = last;
             rest = rest;
@@ -49,12 +51,29 @@ module _ (m : Setting) (t : Tables) (s : Sessions) (stands : Stands m t s) (k : 
             txn = mine ∙ own.is;
             found_is = cc;
             chain = chain;
-            room =
-                let slots : List Slot = page_of s.history last.rid.page in
-                omega (arith, leb-true _ _ fits, used-set_slot slots last.rid.slot back, used-set_slot slots last.rid.slot last.before, length_is);
           }
 
-  module _ (id : ℕ) (found : PendingChange) (back : Slot) (l : Last id found back) where
+  -- the entry of its page is logged before
+  pub prepare_keeps : (id : ℕ) (found : PendingChange) → Last id found → (aim : Aim) (lsn : ℕ) → newest_lsn s.history < lsn → is_over (seat_at s.seats k).stage ≡ false
+      → Stands m (moved_to t t.table t.needs t.stacks k (Compensates aim found.rid.page))
+      (prepared m.format s k (aim_with (slice_index_or t.ops k Unbound) aim) lsn (pending_of s.history (seat_at s.seats k).txn))
+  prepare_keeps id found l aim lsn above going =
+      let page : found.rid.page ≡ l.last.rid.page = ap (λ (p : PendingChange). p.rid.page) l.found_is in
+      rw (page, l.pending) (stays_keep m t s stands k known (Compensates aim l.last.rid.page) (λ some. sym going) l.chain.0.inside.0
+      (enters (entry_for m.format lsn s.history l.last) ∷ s.history) (λ id. refl)
+      (enter_kept m.pages s.next s.history (entry_for m.format lsn s.history l.last) above stands.kept))
+
+  pub undo_has_room : (id : ℕ) (found : PendingChange) (l : Last id found) (back : Slot) → undo_fits s.history (pending_of s.history (seat_at s.seats k).txn) ≡ true
+      → IfSome (newest_in (pending_of s.history (seat_at s.seats k).txn)) (λ last. row_length back ≡ last.before)
+      → (used (set_slot (page_of s.history l.last.rid.page) l.last.rid.slot back) + others_need s.history l.last.txn l.last.rid.page + l.last.need ≤ CAPACITY)
+  undo_has_room id found l back fits length_is =
+      let slots : List Slot = page_of s.history l.last.rid.page in
+      let room = leb-true _ _ (rw l.pending at fits) in
+      let same : row_length back ≡ row_length l.last.before = rw l.pending at length_is in
+      omega (arith, room, same, used-set_slot slots l.last.rid.slot back, used-set_slot slots l.last.rid.slot l.last.before)
+
+  module _ (id : ℕ) (found : PendingChange) (l : Last id found) (back : Slot)
+      (room : used (set_slot (page_of s.history l.last.rid.page) l.last.rid.slot back) + others_need s.history l.last.txn l.last.rid.page + l.last.need ≤ CAPACITY) where
     abbrev last : Change
     last = l.last
 
@@ -74,7 +93,7 @@ module _ (m : Setting) (t : Tables) (s : Sessions) (stands : Stands m t s) (k : 
     need_after lsn = l.chain.0.need ∙ sym (ap (λ (p : List Change). need_for (on_page last.rid.page p)) (pending_of-undo s.history (undo lsn) last l.rest pending))
 
     fits : (lsn : ℕ) → FitsOn (undoes (undo lsn) ∷ s.history) last.rid.page
-    fits lsn = undo_fits_on s.history (undo lsn) last l.rest pending refl (omega (arith, l.room, need_after lsn, used_is lsn))
+    fits lsn = undo_fits_on s.history (undo lsn) last l.rest pending refl (omega (arith, room, need_after lsn, used_is lsn))
       where
         used_is : (lsn : ℕ) → used (page_of (undoes (undo lsn) ∷ s.history) last.rid.page) ≡ used (set_slot (page_of s.history last.rid.page) last.rid.slot back)
         used_is lsn = grind (arith, nat_tests)

@@ -1,17 +1,16 @@
 //! What the sessions are at, as tables.
 
-ghost use Rattle.std.specs.Prelude.{◌≡◌, ℕ, ◌<◌, ◌≤◌, ◌^◌, [], replicate, length, IfSome};
+ghost use Rattle.std.specs.Prelude.{◌≡◌, ℕ, ◌<◌, ◌≤◌, ◌^◌, [], replicate, slice_index_or, length, IfSome};
 ghost use Rattle.rm_types.specs.declared.numbers.TheConstants.{MAX_LOG, MAX_PAGES, MAX_SESSIONS};
-ghost use Rattle.rm_core.specs.Below.{CAPACITY, Fits, History, Op as Ops, last_of, need_of, others_need, pending_of};
+ghost use Rattle.rm_core.specs.Below.{CAPACITY, Fits, History, last_of, need_of, others_need, pending_of};
 ghost use Rattle.rm_core.specs.Names.{IsInside, opened};
-ghost use Rattle.rm_events.specs.declared.operations.Op.TheVariants.{Unbound};
 ghost use Rattle.rm_play.specs.Choosing.{blocker};
 ghost use Rattle.rm_ops.specs.Views.{HasSession, IsActive, IsOfFile, is_alone, last_in, number_in, number_of, op_at, pending_at, saved_in, seat_of};
 ghost use Rattle.rm_ops.specs.Stages.{asked_by, stage_with};
 ghost use Rattle.rm_desk.specs.Stacks.{newest_in, stack_at, under_in};
 
 use crate::grants::Grants;
-use crate::stacks::{PendingChange, SESSIONS, Stack};
+use crate::stacks::{PendingChange, SESSIONS, Stack, last, newest, under};
 use rm_events::Op;
 use rm_need::Needs;
 use rm_noted::Noted;
@@ -70,7 +69,7 @@ impl Model for Desk {
 }
 
 // An operation without its row.
-pub(crate) fn asked_of(op: &Op) -> Asked
+fn asked_of(op: &Op) -> Asked
     ensures { result ≡ asked_by op.now }
 {
     match op {
@@ -87,9 +86,24 @@ pub(crate) fn asked_of(op: &Op) -> Asked
     }
 }
 
+// The same of the operation at a session's place.
+pub(crate) fn asked_at(ops: &[Op; SESSIONS], k: u8) -> Asked
+    requires { k < MAX_SESSIONS }
+    ensures { result ≡ asked_by (slice_index_or ops.now k Op.Unbound) }
+{
+    asked_of(&ops[k as usize])
+}
+
+// How many sessions there are.
+fn count(_stages: &[Stage; SESSIONS]) -> u8
+    ensures { result ≡ MAX_SESSIONS }
+{
+    MAX_SESSIONS
+}
+
 // No session has asked for an operation.
 fn unbound() -> [Op; SESSIONS]
-    ensures { result ≡ replicate MAX_SESSIONS Ops.Unbound }
+    ensures { result ≡ replicate MAX_SESSIONS Op.Unbound }
 {
     [
         Op::Unbound,
@@ -146,7 +160,7 @@ impl Desk {
         requires bounds { (pages ≤ MAX_PAGES) × (limit ≤ MAX_LOG) }
         ensures setting { result.view.setting ≡ record { format = format; pages = pages; limit = limit } }
         ensures state { result.view.state ≡ opened (record { setting = record { format = format; pages = pages; limit = limit }; history = history; sessions = MAX_SESSIONS; next = next }) }
-        ensures asked { result.view.asked ≡ replicate MAX_SESSIONS Ops.Unbound }
+        ensures asked { result.view.asked ≡ replicate MAX_SESSIONS Op.Unbound }
     {
         Desk {
             format,
@@ -192,7 +206,7 @@ impl Desk {
         ensures value { result ≡ MAX_SESSIONS }
         ensures known { length self.now.view.state.seats ≡ MAX_SESSIONS }
     {
-        self.stages.len() as u8
+        count(&self.stages)
     }
 
     /// The session's transaction, if it has one.
@@ -263,7 +277,7 @@ impl Desk {
         ensures value { result ≡ newest_in (pending_at self.now.view k) }
         ensures inside { IfSome result (λ last. IsInside self.now.view.setting.pages last.rid) }
     {
-        self.stacks[k as usize].newest()
+        newest(&self.stacks, k)
     }
 
     /// Where that change is.
@@ -288,7 +302,7 @@ impl Desk {
         requires active { IsActive self.now.view k }
         ensures { result.0 ≡ last_of (pending_at self.now.view k) }
     {
-        self.stacks[k as usize].last()
+        last(&self.stacks, k)
     }
 
     /// The LSN of the pending change below it, 0 where there is none.
@@ -298,7 +312,7 @@ impl Desk {
         ensures value { result.0 ≡ under_in (pending_at self.now.view k) }
         ensures falls { IfSome (newest_in (pending_at self.now.view k)) (λ last. result.0 < last.lsn.0) }
     {
-        self.stacks[k as usize].under()
+        under(&self.stacks, k)
     }
 
     /// Where the session's savepoint of that number stands, if there is one.

@@ -1,6 +1,7 @@
 //! What a session has once a record of its transaction is logged. No call after it fails or takes memory.
 
-ghost use Rattle.std.specs.Prelude.{◌≡◌, ◌-◌, ◌<◌, ◌⊎◌, length, true, false, Some, IfSome, OnOk};
+ghost use Rattle.std.specs.Prelude.{◌≡◌, ◌-◌, ◌<◌, ◌⊎◌, length, slice_index_or, true, false, Some, IfSome, OnOk};
+ghost use Rattle.rm_types.specs.declared.numbers.TheConstants.{MAX_SESSIONS};
 ghost use Rattle.rm_core.specs.Below.{Slot, Vacant, row_length};
 ghost use Rattle.rm_core.specs.Names.{IsNext, aborted, alter, commit, end, insert, sets, settle, tries};
 ghost use Rattle.rm_play.specs.Choosing.{growth_fits, row_fits, slot_for};
@@ -9,12 +10,30 @@ ghost use Rattle.rm_ops.specs.Views.{HasSession, IsActive, has_room, is_over, le
 ghost use Rattle.rm_desk.specs.Desks.{IsReadyFor, compensated_by, undo_fits};
 ghost use Rattle.rm_desk.specs.Stacks.{newest_in};
 
-use crate::desk::{Desk, asked_of};
+use crate::desk::{Desk, asked_at};
 use crate::moves::{id_of, set};
-use crate::stacks::{PendingChange, clear, make_room, pop, push};
+use crate::stacks::{PendingChange, SESSIONS, clear, make_room, newest, pop, push, under};
 use rm_noted::Noted;
+use rm_events::Op;
 use rm_ops::{Aim, Made, Stage};
-use rm_types::{Lsn, Mode, NoMemory, Rid};
+use rm_types::{Lsn, MAX_SESSIONS, Mode, NoMemory, Rid};
+
+// The bytes of the row that the session's operation brings; of the one that its change leaves in the slot, 0 for none.
+#[tactic(auto, using(rm_ops::proofs::Looking::row_len_is))]
+fn row_len(ops: &[Op; SESSIONS], k: u8) -> u16
+    requires { k < MAX_SESSIONS }
+    ensures { result ≡ length (row_in (slice_index_or ops.now k Op.Unbound)) }
+{
+    asked_at(ops, k).row_len()
+}
+
+#[tactic(auto, using(crate::proofs::Changing::new_length_is))]
+fn new_len(ops: &[Op; SESSIONS], k: u8) -> u16
+    requires { k < MAX_SESSIONS }
+    ensures { result ≡ row_length (new_slot (slice_index_or ops.now k Op.Unbound)) }
+{
+    asked_at(ops, k).new_len().unwrap_or(0)
+}
 
 impl Desk {
     /// Makes room for a change of the session's transaction in that slot, so that [`Desk::inserted`] and
@@ -48,7 +67,7 @@ impl Desk {
         requires ready { IsReadyFor self.old k rid }
         ensures { self.new.view ≡ turned self.old.view k (insert (row_in (op_at self.old.view k)) rid lsn.0) }
     {
-        let after = asked_of(&self.ops[k as usize]).row_len();
+        let after = row_len(&self.ops, k);
         let txn = id_of(&self.txns, k);
         let need = self.needs.change(rid.page, txn, 0, after);
         let before = 0;
@@ -72,7 +91,7 @@ impl Desk {
         requires ready { IsReadyFor self.old k rid }
         ensures { self.new.view ≡ turned self.old.view k (alter rid (new_slot (op_at self.old.view k)) lsn.0) }
     {
-        let after = asked_of(&self.ops[k as usize]).new_len().unwrap_or(0);
+        let after = new_len(&self.ops, k);
         let txn = id_of(&self.txns, k);
         let need = self.needs.change(rid.page, txn, before, after);
         push(&mut self.stacks, k, PendingChange { lsn, rid, need, before });
@@ -101,9 +120,13 @@ impl Desk {
         requires open { is_over (seat_of self.old.view k).stage ≡ false }
         ensures { self.new.view ≡ prepared self.old.view k (aim_with (op_at self.old.view k) aim) lsn.0 (pending_at self.old.view k) }
     {
-        if let Some(last) = self.stacks[k as usize].newest() {
-            self.sessions = Noted::of(&(&self.sessions, &self.ops, self.format, k, aim, lsn));
-            set(&mut self.stages, k, Stage::Compensates(aim, last.rid.page));
+        match newest(&self.stacks, k) {
+            Some(last) => {
+                self.sessions =
+                    Noted::of(&(&self.sessions, &self.ops, self.format, k, aim, lsn));
+                set(&mut self.stages, k, Stage::Compensates(aim, last.rid.page));
+            }
+            None => {}
         }
     }
 
@@ -118,14 +141,17 @@ impl Desk {
         requires back { IfSome (newest_in (pending_at self.old.view k)) (λ last. row_length back ≡ last.before) }
         ensures { self.new.view ≡ compensated_by self.old.view k (aim_with (op_at self.old.view k) aim) lsn.0 back (pending_at self.old.view k) }
     {
-        if let Some(last) = self.stacks[k as usize].newest() {
-            let txn = id_of(&self.txns, k);
-            self.needs.restore(last.rid.page, txn, last.need);
-            let under = self.stacks[k as usize].under();
-            self.txns.pop(k + 1, under, last.before);
-            pop(&mut self.stacks, k);
-            self.sessions = Noted::of(&(&self.sessions, &self.ops, k, aim, lsn));
-            set(&mut self.stages, k, Stage::Rolls(aim));
+        match newest(&self.stacks, k) {
+            Some(last) => {
+                let txn = id_of(&self.txns, k);
+                self.needs.restore(last.rid.page, txn, last.need);
+                let below = under(&self.stacks, k);
+                self.txns.pop(k + 1, below, last.before);
+                pop(&mut self.stacks, k);
+                self.sessions = Noted::of(&(&self.sessions, &self.ops, k, aim, lsn));
+                set(&mut self.stages, k, Stage::Rolls(aim));
+            }
+            None => {}
         }
     }
 

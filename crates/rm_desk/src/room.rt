@@ -1,19 +1,22 @@
 //! Room on a page, whose slots are given, and in the log.
 
-ghost use Rattle.std.specs.Prelude.{◌≡◌, ℕ, ◌+◌, ◌*◌, ◌-◌, ◌<◌, ◌≤◌, ◌^◌, nat_le, max, length, Some, IfSome};
+ghost use Rattle.std.specs.Prelude.{◌≡◌, ℕ, ◌+◌, ◌*◌, ◌-◌, ◌<◌, ◌≤◌, ◌^◌, nat_le, max, length, slice_index_or, Some, IfSome, MatchOption};
+ghost use Rattle.rm_types.specs.declared.numbers.TheConstants.{MAX_SESSIONS};
 ghost use Rattle.rm_types.specs.declared.slots.Slot.{Slot as Slots};
 ghost use Rattle.rm_types.specs.declared.slots.TheConstants.{CAPACITY, SLOT_ENTRY};
-ghost use Rattle.rm_core.specs.Below.{growth_for, page_of, row_length, set_slot, unreserved, used};
-ghost use Rattle.rm_core.specs.Names.{alter, insert, owed, sets, tries, CHANGE_COST};
+ghost use Rattle.rm_core.specs.Below.{growth_for, page_of, row_length, set_slot, slot_at, unreserved, used};
+ghost use Rattle.rm_core.specs.Names.{alter, insert, sets, tries};
 ghost use Rattle.rm_play.specs.Choosing.{growth_fits, row_fits, slot_for};
 ghost use Rattle.rm_ops.specs.Stages.{new_slot, row_in};
 ghost use Rattle.rm_ops.specs.Views.{HasSession, IsActive, has_room, has_room_to_begin, last_in, length_in, op_at, pending_at, seat_of, slot_in};
 ghost use Rattle.rm_desk.specs.Desks.{undo_fits};
 
-use crate::desk::Desk;
+use crate::desk::{Desk, asked_at};
+use crate::stacks::SESSIONS;
+use rm_events::Op;
 use rm_page::Page;
 use rm_txns::OWED;
-use rm_types::{CAPACITY, Rid, SLOT_ENTRY};
+use rm_types::{CAPACITY, MAX_SESSIONS, Rid, SLOT_ENTRY};
 
 // The bytes of a change's record but for its rows, and of a row beside its own.
 const CHANGE_FRONT: u64 = 21;
@@ -44,11 +47,40 @@ fn used_with(page: &Page, slot: u16, len: u16) -> u64
     ensures value { (held : Slots) → row_length held ≡ len → result ≡ used (set_slot page.now.slots slot held) }
     ensures bound { result < 2 ^ 32 }
 {
-    let held = match page.row(slot) {
-        Some(row) => row.len() as u64,
+    let grown = u64::from(page.used()) + growth_for(page, slot) + u64::from(len);
+    grown - u64::from(held_len(page, slot))
+}
+
+// Whether the log has room at the offset for that many bytes, beside what is owed.
+fn has_room(limit: u64, owed: u64, offset: u64, bytes: u64) -> bool
+    requires { (limit < 2 ^ 63) × (owed ≤ 2 ^ 63 + 2 ^ 20) × (bytes ≤ 2 ^ 20) }
+    ensures { result ≡ nat_le (offset + (bytes + owed)) limit }
+{
+    offset.saturating_add(bytes + owed) <= limit
+}
+
+// The bytes in a change's record of the row that the session's change leaves in the slot.
+#[tactic(auto, using(rm_ops::proofs::Looking::new_len_is))]
+fn new_bytes(ops: &[Op; SESSIONS], k: u8) -> u64
+    requires { k < MAX_SESSIONS }
+    ensures value { MatchOption (length_in (new_slot (slice_index_or ops.now k Op.Unbound))) (result ≡ 0) (λ len. result ≡ 2 + len) }
+    ensures bound { result < 2 ^ 17 }
+{
+    match asked_at(ops, k).new_len() {
+        Some(len) => LENGTH_SIZE + u64::from(len),
         None => 0,
-    };
-    u64::from(page.used()) + growth_for(page, slot) + u64::from(len) - held
+    }
+}
+
+// The bytes of the row in a slot, 0 for none.
+#[tactic(auto, using(crate::proofs::Rooms::some_len, crate::proofs::Rooms::none_len))]
+fn held_len(page: &Page, slot: u16) -> u16
+    ensures { result ≡ row_length (slot_at page.now.slots slot) }
+{
+    match page.row(slot) {
+        Some(row) => row.len() as u16,
+        None => 0,
+    }
 }
 
 impl Desk {
@@ -115,21 +147,13 @@ impl Desk {
         }
     }
 
-    // Whether the log has room at the offset for that many bytes, and for what is owed and `more`.
-    fn has_room(&self, offset: u64, bytes: u64, more: u64) -> bool
-        requires { (bytes ≤ 2 ^ 20) × (more ≤ 2 ^ 20) }
-        ensures { result ≡ nat_le (offset + bytes + (owed self.now.view.state + more)) self.now.view.setting.limit }
-    {
-        offset.saturating_add(bytes + (self.txns.owed() + more)) <= self.limit
-    }
-
     /// Whether the log has room for a begin, at the offset that the next record has.
     pub fn has_room_to_begin(&self, k: u8, offset: u64) -> bool
         requires known { HasSession self.now.view k }
         requires none { (seat_of self.now.view k).txn ≡ 0 }
         ensures { result ≡ has_room_to_begin self.now.view k offset }
     {
-        self.has_room(offset, 0, OWED)
+        has_room(self.limit, self.txns.owed() + OWED, offset, 0)
     }
 
     /// Whether it has room for the insert of the session's row.
@@ -139,8 +163,9 @@ impl Desk {
         requires at { (seat_of self.now.view k).stage ≡ tries (row_in (op_at self.now.view k)) rid.page }
         ensures { result ≡ has_room self.now.view k (insert (row_in (op_at self.now.view k)) rid offset) }
     {
-        let len = u64::from(self.asked(k).row_len());
-        self.has_room(offset, CHANGE_FRONT + LENGTH_SIZE + len + CHANGE_ROOM, OWED)
+        let len = u64::from(asked_at(&self.ops, k).row_len());
+        let owed = self.txns.owed() + OWED;
+        has_room(self.limit, owed, offset, CHANGE_FRONT + LENGTH_SIZE + len + CHANGE_ROOM)
     }
 
     /// Whether it has room for the session's change of that slot, which holds a row of `before` bytes.
@@ -152,11 +177,8 @@ impl Desk {
         ensures { result ≡ has_room self.now.view k (alter rid (new_slot (op_at self.now.view k)) offset) }
     {
         let before = u64::from(before);
-        let after = match self.asked(k).new_len() {
-            Some(len) => LENGTH_SIZE + u64::from(len),
-            None => 0,
-        };
-        let bytes = CHANGE_FRONT + LENGTH_SIZE + before + after;
-        self.has_room(offset, bytes + CHANGE_ROOM, OWED + before)
+        let owed = self.txns.owed() + OWED + before;
+        let rows = LENGTH_SIZE + before + new_bytes(&self.ops, k);
+        has_room(self.limit, owed, offset, CHANGE_FRONT + rows + CHANGE_ROOM)
     }
 }

@@ -47,14 +47,14 @@ impl Stack {
     }
 
     // The newest change.
-    pub(crate) fn newest(&self) -> Option<PendingChange>
+    fn newest(&self) -> Option<PendingChange>
         ensures { result ≡ first_of self.now.changes }
     {
         self.changes.last().copied()
     }
 
     // Its LSN, 0 where there is none.
-    pub(crate) fn last(&self) -> Lsn
+    fn last(&self) -> Lsn
         ensures { result.0 ≡ top_of self.now.changes }
     {
         match self.newest() {
@@ -64,7 +64,7 @@ impl Stack {
     }
 
     // The LSN of the change below the newest, 0 where there is none.
-    pub(crate) fn under(&self) -> Lsn
+    fn under(&self) -> Lsn
         ensures { result.0 ≡ top_of (rest_of self.now.changes) }
     {
         let len = self.changes.len();
@@ -104,6 +104,27 @@ impl Stack {
 }
 
 // The same of the stack at a session's place. The others stay.
+
+pub(crate) fn newest(stacks: &[Stack; SESSIONS], k: u8) -> Option<PendingChange>
+    requires { k < MAX_SESSIONS }
+    ensures { result ≡ first_of (stack_at stacks.now k).changes }
+{
+    stacks[k as usize].newest()
+}
+
+pub(crate) fn last(stacks: &[Stack; SESSIONS], k: u8) -> Lsn
+    requires { k < MAX_SESSIONS }
+    ensures { result.0 ≡ top_of (stack_at stacks.now k).changes }
+{
+    stacks[k as usize].last()
+}
+
+pub(crate) fn under(stacks: &[Stack; SESSIONS], k: u8) -> Lsn
+    requires { k < MAX_SESSIONS }
+    ensures { result.0 ≡ top_of (rest_of (stack_at stacks.now k).changes) }
+{
+    stacks[k as usize].under()
+}
 
 pub(crate) fn make_room(stacks: &mut [Stack; SESSIONS], k: u8) -> Result<(), NoMemory>
     requires { k < MAX_SESSIONS }

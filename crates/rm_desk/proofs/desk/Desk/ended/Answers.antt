@@ -2,8 +2,8 @@ use Rattle.rm_core.proofs.Sizes.{next_above}
 use Rattle.rm_desk.proofs.Standing.{has_txn, id_is, ends_keep}
 use Rattle.rm_desk.proofs.desk.Desk.ended.Goals as goal
 
-pub id_of-requires-clause-has : goal.id_of-requires-clause-has
-id_of-requires-clause-has c = has_txn _ _ _ c.self.invariant _ (rw (← c.self.view_is) at c.requires.known) (rw (← c.self.view_is) at c.requires.active)
+pub id_of-txn-requires-clause-has : goal.id_of-txn-requires-clause-has
+id_of-txn-requires-clause-has c = has_txn _ _ _ c.self.invariant _ (rw (← c.self.view_is) at c.requires.known) (rw (← c.self.view_is) at c.requires.active)
 
 pub finish-requires-clause-has : goal.finish-requires-clause-has
 finish-requires-clause-has c = has_txn _ _ _ c.self.invariant _ (rw (← c.self.view_is) at c.requires.known) (rw (← c.self.view_is) at c.requires.active)
