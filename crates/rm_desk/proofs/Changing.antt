@@ -7,7 +7,9 @@ use Rattle.rm_desk.proofs.Names.{after_push, Stage, Setting, Sessions, Tables, i
 use Rattle.rm_desk.proofs.Names.{StackValue, PendingChange, stack_at, SetsStack, noted_of, owed_in, owed_by, bytes_for, TXN_BYTES, page_of, used, Rid, Slot, Vacant, Row, slot_at}
 use Rattle.rm_desk.proofs.Names.{State, slot_for, new_slot, row_in, length_in, Op, fitting_is_room, change_of}
 use Rattle.rm_desk.proofs.Names.{unwrap_or, asked_by, last_of, ForSome, OWED, ◌^◌}
-use Rattle.std.specs.Prelude.{nat_le}
+use Rattle.std.specs.Prelude.{nat_le, MatchOption, Bool}
+use Rattle.rm_core.specs.Names.{size_of}
+use Rattle.rm_desk.proofs.Rooms.{insert_bytes, alter_bytes, length_is}
 use Rattle.rm_core.specs.Names.{end_of, CHANGE_COST}
 use Rattle.rm_txns.specs.Tables.{owed_by as total_of}
 use Rattle.rm_events.specs.declared.operations.Op.TheVariants as ops
@@ -19,7 +21,7 @@ use Rattle.rm_play.specs.Choosing.{row_fits, growth_fits}
 use Rattle.rm_play.proofs.Finding.{slot_is_for_row}
 use Rattle.rm_desk.specs.Desks.{Stands}
 use Rattle.rm_desk.proofs.Keeping.{change_kept}
-use Rattle.rm_desk.proofs.Standing.{with_op, moved_to, moved, owed_moves, only_now, seat_now, own_id, IsIdOf, elsewhere, stage_is}
+use Rattle.rm_desk.proofs.Standing.{with_op, moved_to, moved, owed_moves, only_now, seat_now, own_id, own_of, IsIdOf, elsewhere, stage_is}
 
 -- where a page fits with the needs of a history, so it does with one need of it that is set in the table
 pub has_room : (needs : Reserved) (history : History) (page txn need : ℕ) → need ≡ need_of history txn page
@@ -180,3 +182,37 @@ module _ (m : Setting) (t : Tables) (s : Sessions) (stands : Stands m t s) (k : 
 
       there : (page id : ℕ) → IsOn (pending_of after id) page → HasEntry left page id
       there page id on = grind (arith, nat_tests, sets, stands.there, ready, pending-change, pending-change_other)
+
+-- ---- the rule of log room
+
+insert_size : (history : History) (txn : ℕ) (rid : Rid) (row : List ℕ) (lsn : ℕ) → size_of (changes (change_of history txn rid Vacant (Row row) lsn)) ≡ 23 + length row
+unfolding size_of
+insert_size history txn rid row lsn = insert_bytes txn (last_of (pending_of history txn)) rid (need_of history txn rid.page) row
+
+alter_size : (history : History) (txn : ℕ) (rid : Rid) (old new : Slot) (lsn before more : ℕ) → length_in old ≡ Some before → MatchOption (length_in new) (more ≡ 0) (λ len. more ≡ 2 + len)
+    → size_of (changes (change_of history txn rid old new lsn)) ≡ 23 + before + more
+unfolding size_of
+alter_size history txn rid old new lsn before more held is = alter_bytes txn (last_of (pending_of history txn)) rid (need_of history txn rid.page) old new before more held is
+
+module _ (m : Setting) (t : Tables) (s : Sessions) (stands : Stands m t s) (k : ℕ) (known : k < length s.seats) (some : (seat_at s.seats k).txn ≡ 0 → ⊥) (rid : Rid) (lsn owed bytes : ℕ) (fits : Bool) where
+  pub insert_room : (op : Op) → (seat_at s.seats k).stage ≡ core.tries (row_in op) rid.page → owed ≡ total_of t.table → fits ≡ nat_le (lsn + (bytes + (owed + OWED))) m.limit
+      → bytes ≡ 55 + length (row_in op)
+      → fits ≡ nat_le (end_of (changes (change_of s.history (seat_at s.seats k).txn rid Vacant (Row (row_in op)) lsn) ∷ s.history) + CHANGE_COST
+      + owed_in (goes (logged s (changes (change_of s.history (seat_at s.seats k).txn rid Vacant (Row (row_in op)) lsn))) k (core.settles (core.inserted (row_in op) rid) rid.page))) m.limit
+  insert_room op at owed_is is bytes_are =
+      let c = change_of s.history (seat_at s.seats k).txn rid Vacant (Row (row_in op)) lsn in
+      let owes = change_owes m t s stands k known c (own_of m t s stands k known some) (core.settles (core.inserted (row_in op) rid) rid.page) (ap is_over at) refl in
+      let size = insert_size s.history (seat_at s.seats k).txn rid (row_in op) lsn in
+      is ∙ ap (λ (n : ℕ). nat_le n m.limit) (omega (arith, owes, size, owed_is, stands.owes, bytes_are))
+
+  pub alter_room : (op : Op) (before more : ℕ) → (seat_at s.seats k).stage ≡ core.sets rid (new_slot op) → length_in (slot_at (page_of s.history rid.page) rid.slot) ≡ Some before
+      → MatchOption (length_in (new_slot op)) (more ≡ 0) (λ len. more ≡ 2 + len) → owed ≡ total_of t.table → fits ≡ nat_le (lsn + (bytes + (owed + OWED + before))) m.limit
+      → bytes ≡ 55 + before + more
+      → fits ≡ nat_le (end_of (changes (change_of s.history (seat_at s.seats k).txn rid (slot_at (page_of s.history rid.page) rid.slot) (new_slot op) lsn) ∷ s.history) + CHANGE_COST
+      + owed_in (goes (logged s (changes (change_of s.history (seat_at s.seats k).txn rid (slot_at (page_of s.history rid.page) rid.slot) (new_slot op) lsn))) k (core.settles (core.altered rid (new_slot op)) rid.page))) m.limit
+  alter_room op before more at held more_is owed_is is bytes_are =
+      let c = change_of s.history (seat_at s.seats k).txn rid (slot_at (page_of s.history rid.page) rid.slot) (new_slot op) lsn in
+      let owes = change_owes m t s stands k known c (own_of m t s stands k known some) (core.settles (core.altered rid (new_slot op)) rid.page) (ap is_over at) refl in
+      let size = alter_size s.history (seat_at s.seats k).txn rid (slot_at (page_of s.history rid.page) rid.slot) (new_slot op) lsn before more held more_is in
+      let was = length_is (slot_at (page_of s.history rid.page) rid.slot) before held in
+      is ∙ ap (λ (n : ℕ). nat_le n m.limit) (omega (arith, owes, size, was, owed_is, stands.owes, bytes_are))

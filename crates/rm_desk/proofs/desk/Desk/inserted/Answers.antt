@@ -34,7 +34,7 @@ grant-requires-clause-free c =
     rw (← own.is) (slot_free (state_of c.self.inside.sessions c.self.inside.grants.grants) (seat_at c.self.inside.sessions.seats c.args.k) _ (rw (← c.self.view_is) at c.requires.slot))
 
 pub grant-requires-clause-inside : goal.grant-requires-clause-inside
-grant-requires-clause-inside c = slot_inside _ (change_of c.self.inside.sessions.history (seat_at c.self.inside.sessions.seats c.args.k).txn c.args.rid Vacant (Row (row_in (slice_index_or c.self.inside.ops c.args.k Unbound))) c.args.lsn.0) (insert_fits (state_of c.self.inside.sessions c.self.inside.grants.grants) (seat_at c.self.inside.sessions.seats c.args.k) _ c.args.rid c.args.lsn.0 c.self.invariant.kept.fits (rw (← c.self.view_is) at c.requires.slot) (rw (← c.self.view_is) at c.requires.fits))
+grant-requires-clause-inside c = slot_inside c.self.inside.sessions.history (change_of c.self.inside.sessions.history (seat_at c.self.inside.sessions.seats c.args.k).txn c.args.rid Vacant (Row (row_in (slice_index_or c.self.inside.ops c.args.k Unbound))) c.args.lsn.0) (insert_fits (state_of c.self.inside.sessions c.self.inside.grants.grants) (seat_at c.self.inside.sessions.seats c.args.k) _ c.args.rid c.args.lsn.0 c.self.invariant.kept.fits (rw (← c.self.view_is) at c.requires.slot) (rw (← c.self.view_is) at c.requires.fits))
 
 pub invariant_of-self : goal.invariant_of-self
 invariant_of-self c = 
