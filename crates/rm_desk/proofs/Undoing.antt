@@ -5,7 +5,7 @@ use Rattle.rm_desk.proofs.Names.{need_of, need_for, on_page, others_need, FitsOn
 use Rattle.rm_desk.proofs.Names.{need_of-undo_other, pending_of-undo, pending_on-undo, pending-undo_other, staged, TXN_BYTES, bytes_for, rolls}
 use Rattle.rm_desk.proofs.Names.{Seat, seat_at, Reserved, need_in, HasEntry, HasRoom, Txn, OWED, Table, txn_of, ChangesOnly, HasId, after_pop, Setting, Sessions, Tables}
 use Rattle.rm_desk.proofs.Names.{Stage, Rolls, Aim, aim_with, is_over, seat_from, pending_by, stage_at, goes, undone, IsOn, IsAccounted, Accounts, AreKept, StackValue, PendingChange}
-use Rattle.rm_desk.proofs.Names.{stack_at, SetsStack, noted_of, first_of, rest_of, top_of, newest_in, Op, Unbound, slice_index_or, prepared, Compensates, enters, entry_for}
+use Rattle.rm_desk.proofs.Names.{stack_at, SetsStack, noted_of, first_of, rest_of, top_of, newest_in, under_in, Op, Unbound, slice_index_or, prepared, Compensates, enters, entry_for}
 use Rattle.std.proofs.lemmas.Bool.{leb-true}
 use Rattle.rm_model.proofs.Slots.{used-set_slot}
 use Rattle.rm_core.specs.Names as core
@@ -98,32 +98,40 @@ module _ (m : Setting) (t : Tables) (s : Sessions) (stands : Stands m t s) (k : 
         used_is : (lsn : ℕ) → used (page_of (undoes (undo lsn) ∷ s.history) last.rid.page) ≡ used (set_slot (page_of s.history last.rid.page) last.rid.slot back)
         used_is lsn = grind (arith, nat_tests)
 
-    pub undo_room : HasRoom t.needs last.rid.page last.txn last.need
+    undo_room : HasRoom t.needs last.rid.page last.txn last.need
     undo_room = has_room t.needs (undoes (undo 0) ∷ s.history) last.rid.page last.txn last.need (need_after 0)
         (λ other differs. stands.needed last.rid.page other ∙ sym (need_of-undo_other s.history (undo 0) other last.rid.page (λ same. differs (sym same)))) (fits 0)
 
-    pub undo_entry : HasEntry t.needs last.rid.page last.txn
+    undo_entry : HasEntry t.needs last.rid.page last.txn
     undo_entry = stands.there last.rid.page last.txn (subst (λ (p : List Change). IsOn p last.rid.page) (sym pending) (inl refl))
 
     -- what the transaction owes
     owes : (txn : Txn) → txn.id.0 ≡ last.txn → is_over at ≡ false → IsAccounted s.history at txn → TXN_BYTES + bytes_for (last ∷ l.rest) ≡ txn.owed
     owes txn has going is = let its : pending_of s.history txn.id.0 ≡ last ∷ l.rest = ap (pending_of s.history) has ∙ pending in sym (rw (going, its) at is.owed)
 
-    pub undo_owes : is_over (seat_at s.seats k).stage ≡ false → ForSome its (λ txn. OWED + OWED + row_length last.before ≤ txn.owed)
+    pub undo_owes : is_over (seat_at s.seats k).stage ≡ false → ForSome its (λ txn. OWED + OWED + found.before ≤ txn.owed)
     undo_owes going txn txn_is =
         let old = stands.sits k (omega (arith, known, stands.sized)) in
-        let owed = owes txn (rw txn_is at l.own.has) (ap is_over (sym (stage_is m t s stands k known)) ∙ going) (rw txn_is at old.accounted) in omega (arith, owed)
+        let owed = owes txn (rw txn_is at l.own.has) (ap is_over (sym (stage_is m t s stands k known)) ∙ going) (rw txn_is at old.accounted) in omega (arith, owed, ap (λ (p : PendingChange). p.before) l.found_is)
 
-    pub undo_keeps : (next : Table) (left : Reserved) (stacks : List StackValue) (lsn under : Lsn) (aim : Aim) → newest_lsn s.history < lsn.0 → under.0 ≡ last.under
-        → is_over (seat_at s.seats k).stage ≡ false → Sets t.needs left last.rid.page last.txn last.need
-        → ChangesOnly t.table next (k + 1) (option_map (after_pop under (row_length last.before)) its)
+    -- of the change as it is kept
+    pub has_entry : HasEntry t.needs found.rid.page id
+    has_entry = subst (λ (p : PendingChange). HasEntry t.needs p.rid.page id) (sym l.found_is) (subst (HasEntry t.needs last.rid.page) l.txn undo_entry)
+
+    pub may_restore : HasRoom t.needs found.rid.page id found.need
+    may_restore = subst (λ (p : PendingChange). HasRoom t.needs p.rid.page id p.need) (sym l.found_is) (subst (λ (n : ℕ). HasRoom t.needs last.rid.page n last.need) l.txn undo_room)
+
+    pub undo_keeps : (next : Table) (left : Reserved) (stacks : List StackValue) (lsn under : Lsn) (aim : Aim) → newest_lsn s.history < lsn.0
+        → under.0 ≡ under_in (pending_of s.history (seat_at s.seats k).txn) → is_over (seat_at s.seats k).stage ≡ false → Sets t.needs left found.rid.page id found.need
+        → ChangesOnly t.table next (k + 1) (option_map (after_pop under found.before) its)
         → SetsStack t.stacks stacks k (rest_of (stack_at t.stacks k).changes)
         → Stands m (moved_to t next left stacks k (Rolls aim))
         (undone s k (aim_with (slice_index_or t.ops k Unbound) aim) lsn.0 back (pending_of s.history (seat_at s.seats k).txn))
-    undo_keeps next left stacks lsn under aim above under_is going sets only stacked =
+    undo_keeps next left stacks lsn under aim above under_at going sets_found only_found stacked =
         let old = stands.sits k (omega (arith, known, stands.sized)) in
         let txn = option_map (after_pop under (row_length last.before)) its in
         let going_at : is_over at ≡ false = ap is_over (sym (stage_is m t s stands k known)) ∙ going in
+        let only : ChangesOnly t.table next (k + 1) txn = subst (λ (p : PendingChange). ChangesOnly t.table next (k + 1) (option_map (after_pop under p.before) its)) l.found_is only_found in
         let stack : (stack_at t.stacks k).changes ≡ map noted_of (last ∷ l.rest) = old.stacked ∙ ap (map noted_of) (pends its l.own.has) in
         rw (l.pending, seat_now m t s stands k known (with_op t k (Rolls aim)) ∙ seat_is its)
         (moved m t s stands k known next left stacks txn (Rolls aim) after s.next (record {
@@ -141,6 +149,12 @@ module _ (m : Setting) (t : Tables) (s : Sessions) (stands : Stands m t s) (k : 
       where
         after : History
         after = undoes (undo lsn.0) ∷ s.history
+
+        under_is : under.0 ≡ last.under
+        under_is = under_at ∙ ap under_in l.pending
+
+        sets : Sets t.needs left last.rid.page last.txn last.need
+        sets = subst (λ (n : ℕ). Sets t.needs left last.rid.page n last.need) (sym l.txn) (subst (λ (p : PendingChange). Sets t.needs left p.rid.page id p.need) l.found_is sets_found)
 
         seat_is : (txn : Option Txn) → seat_from txn (with_op t k (Rolls aim)) ≡ seat_from (option_map (after_pop under (row_length last.before)) txn) (with_op t k (Rolls aim))
         seat_is txn = grind (arith, nat_tests)
