@@ -93,8 +93,12 @@ alter_fits s seat op rid before lsn fits held room = by (slot_at (page_of s.hist
 
 pub slot_inside : (history : History) (c : Change) → Fits (changes c ∷ history) → c.rid.slot ≤ MAX_SLOT
 slot_inside history c fits =
-    omega (arith, fits c.rid.page 0, length_within (page_of (changes c ∷ history) c.rid.page),
-    last_is_inside (changes c ∷ history) c.txn c (pending_of history c.txn) (pending-change c history))
+    omega (
+      arith,
+      fits c.rid.page 0,
+      length_within (page_of (changes c ∷ history) c.rid.page),
+      last_is_inside (changes c ∷ history) c.txn c (pending_of history c.txn) (pending-change c history),
+    )
 
 module _ (m : Setting) (t : Tables) (s : Sessions) (stands : Stands m t s) (k : ℕ) (known : k < length s.seats) (c : Change) (own : IsIdOf m t s stands k known c.txn) where
   abbrev after : History

@@ -54,14 +54,14 @@ impl Model for Desk {
     ghost Value = { DeskValue };
 
     ghost view = { λ desk. record {
-        view = record {
-            setting = record { format = desk.format; pages = desk.pages; limit = desk.limit };
-            state = state_of desk.sessions desk.grants.grants;
-            asked = desk.ops;
-        };
-        entries = desk.needs;
-        locks = desk.grants.entries;
-        stacks = desk.stacks;
+      view = record {
+        setting = record { format = desk.format; pages = desk.pages; limit = desk.limit };
+        state = state_of desk.sessions desk.grants.grants;
+        asked = desk.ops;
+      };
+      entries = desk.needs;
+      locks = desk.grants.entries;
+      stacks = desk.stacks;
     } };
 
     ghost invariant = { λ desk. Stands (record { format = desk.format; pages = desk.pages; limit = desk.limit })

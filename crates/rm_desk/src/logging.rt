@@ -13,8 +13,8 @@ ghost use Rattle.rm_desk.specs.Stacks.{newest_in};
 use crate::desk::{Desk, asked_at};
 use crate::moves::{id_of, set};
 use crate::stacks::{PendingChange, SESSIONS, clear, make_room, newest, pop, push, under};
-use rm_noted::Noted;
 use rm_events::Op;
+use rm_noted::Noted;
 use rm_ops::{Aim, Made, Stage};
 use rm_types::{Lsn, MAX_SESSIONS, Mode, NoMemory, Rid};
 
@@ -71,7 +71,16 @@ impl Desk {
         let txn = id_of(&self.txns, k);
         let need = self.needs.change(rid.page, txn, 0, after);
         let before = 0;
-        push(&mut self.stacks, k, PendingChange { lsn, rid, need, before });
+        push(
+            &mut self.stacks,
+            k,
+            PendingChange {
+                lsn,
+                rid,
+                need,
+                before,
+            },
+        );
         self.txns.push(k + 1, lsn, before);
         self.grants.grant(txn, rid, Mode::Exclusive);
         self.sessions = Noted::of(&(&self.sessions, &self.ops, k, rid, lsn));
@@ -94,7 +103,16 @@ impl Desk {
         let after = new_len(&self.ops, k);
         let txn = id_of(&self.txns, k);
         let need = self.needs.change(rid.page, txn, before, after);
-        push(&mut self.stacks, k, PendingChange { lsn, rid, need, before });
+        push(
+            &mut self.stacks,
+            k,
+            PendingChange {
+                lsn,
+                rid,
+                need,
+                before,
+            },
+        );
         self.txns.push(k + 1, lsn, before);
         self.sessions = Noted::of(&(&self.sessions, &self.ops, k, rid, lsn));
         set(&mut self.stages, k, Stage::Settles(Made::Altered, rid));
@@ -122,8 +140,7 @@ impl Desk {
     {
         match newest(&self.stacks, k) {
             Some(last) => {
-                self.sessions =
-                    Noted::of(&(&self.sessions, &self.ops, self.format, k, aim, lsn));
+                self.sessions = Noted::of(&(&self.sessions, &self.ops, self.format, k, aim, lsn));
                 set(&mut self.stages, k, Stage::Compensates(aim, last.rid.page));
             }
             None => {}

@@ -20,6 +20,7 @@ use rm_types::{CAPACITY, MAX_SESSIONS, Rid, SLOT_ENTRY};
 
 // The bytes of a change's record but for its rows, and of a row beside its own.
 const CHANGE_FRONT: u64 = 21;
+
 const LENGTH_SIZE: u64 = 2;
 
 // What a change asks for beside its record and what its transaction owes: for the entry of its page, and the headers of
@@ -104,7 +105,11 @@ impl Desk {
     {
         let txn = self.id(k);
         let used = u64::from(page.used()) + growth_for(page, slot);
-        is_within(used, self.others(number, txn), len.max(self.need(number, txn)))
+        is_within(
+            used,
+            self.others(number, txn),
+            len.max(self.need(number, txn)),
+        )
     }
 
     /// Whether the rows of the page may grow by `growth` bytes for the session's transaction.
@@ -116,7 +121,11 @@ impl Desk {
     {
         let txn = self.id(k);
         let used = u64::from(page.used());
-        is_within(used, self.others(number, txn), growth.max(self.need(number, txn)))
+        is_within(
+            used,
+            self.others(number, txn),
+            growth.max(self.need(number, txn)),
+        )
     }
 
     /// The bytes of the page that neither its slots have nor the undo of other transactions needs.
@@ -165,7 +174,12 @@ impl Desk {
     {
         let len = u64::from(asked_at(&self.ops, k).row_len());
         let owed = self.txns.owed() + OWED;
-        has_room(self.limit, owed, offset, CHANGE_FRONT + LENGTH_SIZE + len + CHANGE_ROOM)
+        has_room(
+            self.limit,
+            owed,
+            offset,
+            CHANGE_FRONT + LENGTH_SIZE + len + CHANGE_ROOM,
+        )
     }
 
     /// Whether it has room for the session's change of that slot, which holds a row of `before` bytes.

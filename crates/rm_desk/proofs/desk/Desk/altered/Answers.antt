@@ -12,7 +12,7 @@ pub change-need-requires-clause-ready : goal.change-need-requires-clause-ready
 change-need-requires-clause-ready c = let own = (id_is _ _ _ c.self.invariant _ (rw (← c.self.view_is) at c.requires.known) (rw (← c.self.view_is) at c.requires.active) c.id_of-txn.result c.id_of-txn.ensures) in rw (← own.is) (rw (← c.self.view_is) at c.requires.ready).need
 
 pub change-need-requires-clause-room : goal.change-need-requires-clause-room
-change-need-requires-clause-room c = 
+change-need-requires-clause-room c =
     let own = (id_is _ _ _ c.self.invariant _ (rw (← c.self.view_is) at c.requires.known) (rw (← c.self.view_is) at c.requires.active) c.id_of-txn.result c.id_of-txn.ensures) in
     rw (← own.is, c.new_len-after.ensures, ← (length_is _ _ (rw (← c.self.view_is) at c.requires.held))) (change_room _ _ _ c.self.invariant _ (rw (← c.self.view_is) at c.requires.known) (change_of c.self.inside.sessions.history (seat_at c.self.inside.sessions.seats c.args.k).txn c.args.rid (slot_at (page_of c.self.inside.sessions.history c.args.rid.page) c.args.rid.slot) (new_slot (slice_index_or c.self.inside.ops c.args.k Unbound)) c.args.lsn.0) (own_of _ _ _ c.self.invariant _ (rw (← c.self.view_is) at c.requires.known) (rw (← c.self.view_is) at c.requires.active)) ((alter_fits (state_of c.self.inside.sessions []) (seat_at c.self.inside.sessions.seats c.args.k) _ c.args.rid _ c.args.lsn.0 c.self.invariant.kept.fits (rw (← c.self.view_is) at c.requires.held) (rw (← c.self.view_is) at c.requires.fits)) c.args.rid.page))
 
@@ -26,7 +26,7 @@ pub push-requires-2-clause-room : goal.push-requires-2-clause-room
 push-requires-2-clause-room c = push_room _ _ _ c.self.invariant _ (rw (← c.self.view_is) at c.requires.known) (change_of c.self.inside.sessions.history (seat_at c.self.inside.sessions.seats c.args.k).txn c.args.rid (slot_at (page_of c.self.inside.sessions.history c.args.rid.page) c.args.rid.slot) (new_slot (slice_index_or c.self.inside.ops c.args.k Unbound)) c.args.lsn.0) (own_of _ _ _ c.self.invariant _ (rw (← c.self.view_is) at c.requires.known) (rw (← c.self.view_is) at c.requires.active)) _ _ (sets_open _ _ _ c.self.invariant _ (rw (← c.self.view_is) at c.requires.known) _ _ (rw (← c.self.view_is) at c.requires.at)) refl (length_is _ _ (rw (← c.self.view_is) at c.requires.held)) (rw (← c.self.view_is) at c.requires.room)
 
 pub invariant_of-self : goal.invariant_of-self
-invariant_of-self c = 
+invariant_of-self c =
     let own = (id_is _ _ _ c.self.invariant _ (rw (← c.self.view_is) at c.requires.known) (rw (← c.self.view_is) at c.requires.active) c.id_of-txn.result c.id_of-txn.ensures) in
     let mine = own_of _ _ _ c.self.invariant _ (rw (← c.self.view_is) at c.requires.known) (rw (← c.self.view_is) at c.requires.active) in
     let fits = (alter_fits (state_of c.self.inside.sessions []) (seat_at c.self.inside.sessions.seats c.args.k) _ c.args.rid _ c.args.lsn.0 c.self.invariant.kept.fits (rw (← c.self.view_is) at c.requires.held) (rw (← c.self.view_is) at c.requires.fits)) in

@@ -12,7 +12,7 @@ pub change-need-requires-clause-ready : goal.change-need-requires-clause-ready
 change-need-requires-clause-ready c = let own = (id_is _ _ _ c.self.invariant _ (rw (← c.self.view_is) at c.requires.known) (rw (← c.self.view_is) at c.requires.active) c.id_of-txn.result c.id_of-txn.ensures) in rw (← own.is) (rw (← c.self.view_is) at c.requires.ready).need
 
 pub change-need-requires-clause-room : goal.change-need-requires-clause-room
-change-need-requires-clause-room c = 
+change-need-requires-clause-room c =
     let own = (id_is _ _ _ c.self.invariant _ (rw (← c.self.view_is) at c.requires.known) (rw (← c.self.view_is) at c.requires.active) c.id_of-txn.result c.id_of-txn.ensures) in
     rw (← own.is, c.row_len-after.ensures) (change_room _ _ _ c.self.invariant _ (rw (← c.self.view_is) at c.requires.known) (change_of c.self.inside.sessions.history (seat_at c.self.inside.sessions.seats c.args.k).txn c.args.rid Vacant (Row (row_in (slice_index_or c.self.inside.ops c.args.k Unbound))) c.args.lsn.0) (own_of _ _ _ c.self.invariant _ (rw (← c.self.view_is) at c.requires.known) (rw (← c.self.view_is) at c.requires.active)) ((insert_fits (state_of c.self.inside.sessions c.self.inside.grants.grants) (seat_at c.self.inside.sessions.seats c.args.k) _ c.args.rid c.args.lsn.0 c.self.invariant.kept.fits (rw (← c.self.view_is) at c.requires.slot) (rw (← c.self.view_is) at c.requires.fits)) c.args.rid.page))
 
@@ -29,7 +29,7 @@ pub grant-requires-clause-ready : goal.grant-requires-clause-ready
 grant-requires-clause-ready c = let own = (id_is _ _ _ c.self.invariant _ (rw (← c.self.view_is) at c.requires.known) (rw (← c.self.view_is) at c.requires.active) c.id_of-txn.result c.id_of-txn.ensures) in rw (← own.is) (rw (← c.self.view_is) at c.requires.ready).lock
 
 pub grant-requires-clause-free : goal.grant-requires-clause-free
-grant-requires-clause-free c = 
+grant-requires-clause-free c =
     let own = (id_is _ _ _ c.self.invariant _ (rw (← c.self.view_is) at c.requires.known) (rw (← c.self.view_is) at c.requires.active) c.id_of-txn.result c.id_of-txn.ensures) in
     rw (← own.is) (slot_free (state_of c.self.inside.sessions c.self.inside.grants.grants) (seat_at c.self.inside.sessions.seats c.args.k) _ (rw (← c.self.view_is) at c.requires.slot))
 
@@ -37,7 +37,7 @@ pub grant-requires-clause-inside : goal.grant-requires-clause-inside
 grant-requires-clause-inside c = slot_inside c.self.inside.sessions.history (change_of c.self.inside.sessions.history (seat_at c.self.inside.sessions.seats c.args.k).txn c.args.rid Vacant (Row (row_in (slice_index_or c.self.inside.ops c.args.k Unbound))) c.args.lsn.0) (insert_fits (state_of c.self.inside.sessions c.self.inside.grants.grants) (seat_at c.self.inside.sessions.seats c.args.k) _ c.args.rid c.args.lsn.0 c.self.invariant.kept.fits (rw (← c.self.view_is) at c.requires.slot) (rw (← c.self.view_is) at c.requires.fits))
 
 pub invariant_of-self : goal.invariant_of-self
-invariant_of-self c = 
+invariant_of-self c =
     let own = (id_is _ _ _ c.self.invariant _ (rw (← c.self.view_is) at c.requires.known) (rw (← c.self.view_is) at c.requires.active) c.id_of-txn.result c.id_of-txn.ensures) in
     let mine = own_of _ _ _ c.self.invariant _ (rw (← c.self.view_is) at c.requires.known) (rw (← c.self.view_is) at c.requires.active) in
     let fits = (insert_fits (state_of c.self.inside.sessions c.self.inside.grants.grants) (seat_at c.self.inside.sessions.seats c.args.k) _ c.args.rid c.args.lsn.0 c.self.invariant.kept.fits (rw (← c.self.view_is) at c.requires.slot) (rw (← c.self.view_is) at c.requires.fits)) in

@@ -2,6 +2,6 @@ use Rattle.rm_desk.proofs.Names.{prepared, aim_with, pending_of, seat_at, slice_
 use Rattle.rm_desk.proofs.desk.Desk.prepared.Given as goal
 
 abbrev pub ghost-of : goal.ghost-of
-ghost-of a = 
+ghost-of a =
     prepared a._from.now.2 a._from.now.0.now a._from.now.3 (aim_with (slice_index_or a._from.now.1.now a._from.now.3 Unbound) a._from.now.4) a._from.now.5.0
     (pending_of a._from.now.0.now.history (seat_at a._from.now.0.now.seats a._from.now.3).txn)
