@@ -107,3 +107,14 @@ pub frames_kept : (history : History) (what : LogRecord) (lsn : ℕ) (pages : Li
     → AreFrames history pages blocks page block → entered_by what ≡ None → rid_of what ≡ None → AreFrames (act_at lsn what ∷ history) pages blocks page block
 frames_kept history what lsn pages blocks page block was no_entry no_slot =
     search rules
+
+-- a record that redo applied to a page, or to a block, is one that the file can have
+pub took_slot : (frames : FramesValue) (what : LogRecord) (lsn : Lsn) (rid : Rid) (applied : Applied) (pages : List PageValue) (old new : PageValue)
+    → EachIs (IsPageOf frames.applied) pages → IsAfter frames.applied lsn.0 → entered_by what ≡ None → Some rid ≡ rid_of what → rid.page < length pages
+    → rid.page < frames.size → old ≡ get_or pages rid.page old → ((number : ℕ) → ChangesPage what number → Redoes number old what lsn applied new)
+    → CannotTake frames what → ⊥
+took_slot frames what lsn rid applied pages old new each after none named inside within read made cannot =
+    let one : (slot : Slot) × (set_by what ≡ Some (rid, slot)) = set_with (set_by what) rid (sym named) in
+    let redone : Redoes rid.page old what lsn applied new = made rid.page (rw one.1 refl) in
+    let page = each rid.page old inside in
+    search (rules, version_below)
