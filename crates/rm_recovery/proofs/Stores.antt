@@ -1,0 +1,67 @@
+-- How the steps of an undo go on from one to the next.
+use Rattle.std.proofs.Common.{◌≡◌, ◌⊎◌, inl, inr, ℕ, List, [], ◌∷◌, refl, sym, ap, subst, ◌∙◌}
+use Rattle.rm_types.specs.declared.areas.Area.TheVariants.{Log}
+use Rattle.rm_types.specs.declared.faults.Fault.TheVariants as fault
+use Rattle.rm_types.specs.declared.faults.StoreFault.{StoreFault}
+use Rattle.rm_types.specs.declared.faults.StoreFault.TheVariants as store
+use Rattle.rm_types.specs.declared.formats.Format.TheVariants.{One}
+use Rattle.rm_history.specs.Acts.{Change, History}
+use Rattle.rm_history.specs.Pending.{all_pending}
+use Rattle.rm_pool.specs.Stores.{StoreValue, made_durable}
+use Rattle.rm_recovery.specs.Restarting.{IsRestarting, IsUndoDamageAt}
+use Rattle.rm_recovery.specs.Undone.{IsRightForNewest, HasSameLosers, HasSamePending, HasOneLess, LosesOne, Stepped, GoesOn, StopsUndo, IsStop}
+
+module _ {V : Type 0} where
+  pub stays : {before after : Type 0} {old new : StoreValue V} → (after → before) → new.journal.opened ≡ old.journal.opened
+      → new.journal.first ≡ old.journal.first → new.frames.size ≡ old.frames.size → new.journal.history ≡ old.journal.history → Stepped before after old new
+  stays modelled opened first size history = record {
+    modelled = modelled;
+    opened = opened;
+    first = first;
+    size = size;
+    restarts = λ models begun restarting. subst (IsRestarting One _ begun) (sym history) restarting;
+  }
+
+  pub stepped_on : {before between after : Type 0} {old mid new : StoreValue V} → Stepped before between old mid → Stepped between after mid new
+      → Stepped before after old new
+  stepped_on {old = old} {mid = mid} {new = new} one two = record {
+    modelled = λ models. one.modelled (two.modelled models);
+    opened = two.opened ∙ one.opened;
+    first = two.first ∙ one.first;
+    size = two.size ∙ one.size;
+    restarts = λ models begun restarting.
+        subst (λ (n : ℕ). IsRestarting One n begun mid.journal.history → IsRestarting One n begun new.journal.history) one.size
+        (two.restarts models begun) (one.restarts (two.modelled models) begun restarting);
+  }
+
+  pub goes_on : {old mid new : StoreValue V} → GoesOn old mid → GoesOn mid new → GoesOn old new
+  goes_on one two = record { known = two.known ∙ one.known; limit = two.limit ∙ one.limit }
+
+  -- what stops the second of two steps stops both
+  pub stops_later : {before between after : Type 0} {old mid new : StoreValue V} → Stepped before between old mid → (after → between)
+      → (stored : StoreFault) → IsStop after mid.frames.size mid.journal.history stored → IsStop after old.frames.size old.journal.history stored
+  stops_later {after = after} {old = old} {mid = mid} one modelled (store.Fault (fault.Damaged area at)) is = (
+    is.0,
+    λ models begun restarting.
+        subst (λ (n : ℕ). IsRestarting One n begun mid.journal.history → IsUndoDamageAt One n begun at) one.size
+        (is.1 models begun) (one.restarts (modelled models) begun restarting),
+  )
+  stops_later one modelled (store.Fault (fault.Volume area)) is = tt
+  stops_later one modelled store.NoMemory is = tt
+
+-- ---- what is pending
+
+pub same_losers_on : {old mid new : History} → HasSameLosers old mid → HasSameLosers mid new → HasSameLosers old new
+same_losers_on one two = record { losers = two.losers ∙ one.losers; greatest = two.greatest ∙ one.greatest }
+
+pub one_less_after : {old mid new : History} → HasSamePending old mid → HasOneLess mid new → HasOneLess old new
+one_less_after same less = (same_losers_on same.0 less.0, λ last rest is. less.1 last rest (same.1 ∙ is))
+
+pub one_less_of : {old mid new : History} → mid ≡ old → HasOneLess mid new → HasOneLess old new
+one_less_of {new = new} same less = subst (λ (h : History). HasOneLess h new) same less
+
+pub same_of : {old mid new : History} → mid ≡ old → HasSamePending mid new → HasSamePending old new
+same_of {new = new} same pending = subst (λ (h : History). HasSamePending h new) same pending
+
+pub loses_of : {old mid new : History} → mid ≡ old → LosesOne mid new → LosesOne old new
+loses_of {new = new} same loses = subst (λ (h : History). LosesOne h new) same loses
