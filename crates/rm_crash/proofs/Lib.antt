@@ -6,3 +6,4 @@ pub mod Runs
 pub mod Images
 pub mod Crashes
 pub mod Moments
+pub mod Scripts

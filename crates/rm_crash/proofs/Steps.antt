@@ -18,7 +18,7 @@ use Rattle.rm_history.specs.Sizes.{end_of, IsNext}
 unfoldable use Rattle.rm_history.specs.Sizes.{size_of}
 use Rattle.rm_history.specs.Transactions.{HasChange, HasRecord}
 use Rattle.rm_history.specs.UndoBytes.{undo_bytes, bytes_of, compensate_record}
-use Rattle.rm_history.specs.Undoing.{category_after, entry_for, undo_for, Undone}
+use Rattle.rm_history.specs.Undoing.{category_after, entry_for, undo_for, Undone, Ended}
 use Rattle.rm_history.proofs.AllPending.{pending_of-newest, pending_of-none}
 use Rattle.rm_history.proofs.Chains.{last_is_changed, last_is_unfinished}
 use Rattle.rm_history.proofs.Finished.{last_has_record}
@@ -120,7 +120,7 @@ module _ (start : Format) (before : History) (lsn : ℕ) (legal : IsLegal start 
       let f : Finish = record { lsn = lsn; txn = txn } in
       let among : IsAmong (losers_of before) txn = subst (λ (l : List ℕ). IsAmong l txn) (sym losers) (inl refl) in
       let known = (losers_are_unfinished.exact before ordered txn).0 among in
-      let ended = record { lsn = lsn; above = above; new_is = refl } in
+      let ended : Ended before txn (ends f ∷ before) = record { lsn = lsn; above = above; new_is = refl } in
       record {
         legal = (has_ended start before (ends f ∷ before) txn legal known.1 (pending_of-none before none txn) ended).legal;
         rows = refl;

@@ -1,5 +1,5 @@
 -- What holds of each crash, in a run, in a restart, and in a run after a restart after a crash.
-use Rattle.std.specs.Prelude.{◌≡◌, ℕ, ◌^◌, ◌<◌, ◌≤◌, List, [], ◌++◌}
+use Rattle.std.specs.Prelude.{◌≡◌, ℕ, ◌^◌, ◌<◌, ◌≤◌, Bool, List, [], ◌++◌}
 use Rattle.rm_types.specs.declared.formats.Format.{Format}
 use Rattle.rm_types.specs.declared.formats.Format.TheVariants.{One}
 use Rattle.rm_types.specs.declared.areas.Area.TheVariants.{Log}
@@ -13,11 +13,13 @@ use Rattle.rm_history.specs.Acts.{History}
 use Rattle.rm_history.specs.Batched.{acts_of_batches}
 use Rattle.rm_history.specs.Transactions.{IsFinished, greatest_txn}
 use Rattle.rm_history.specs.Undoing.{Restarted}
-use Rattle.rm_core.specs.Names.{Event, IsAcknowledged, IsOpening, Machine}
+use Rattle.rm_core.specs.Below.{Actor}
+use Rattle.rm_core.specs.Names.{Event, IsAcknowledged, IsOpening, Machine, Move}
+use Rattle.rm_play.specs.Words.{ByActors, Progress, StopsBy}
 use Rattle.rm_pool.specs.Journals.{Begins, IsBetween}
 use Rattle.rm_image.specs.Starts.{Start}
 use Rattle.rm_image.specs.Whole.{IsSoundWith}
-use Rattle.rm_crash.specs.Crashes.{IsFound, start_of, IsRunFrom, IsCrashImage, HasAcknowledged, IsRecovered}
+use Rattle.rm_crash.specs.Crashes.{IsFound, TellsNoCheckpoint, start_of, IsRunFrom, IsCrashImage, HasAcknowledged, IsRecovered}
 
 -- A volume that was just made is found with an empty log.
 abbrev pub FreshIsFound : Type 0
@@ -55,3 +57,10 @@ AcknowledgedStay = (fields : Fields) (first durable : History) (m : Machine) (d 
 abbrev pub RestartsRecover : Type 0
 RestartsRecover = (start : Start) (fields : Fields) (first new : History) (trace : List Event) (c : Image) (image : IsCrashImage start fields first trace c)
     → Restarted start.format (image.more ++ first) new → IsRecovered start.format first image.more trace new
+
+-- The run of a script makes no checkpoint.
+pub record ScriptsMakeNoCheckpoint : Type 0 where
+  pub goes : (closes : Bool) (old new : Progress) (actors : List Actor) → ByActors closes old actors new
+      → TellsNoCheckpoint old.machine.trace → TellsNoCheckpoint new.machine.trace
+  pub stops : (old new : Progress) (actors : List Actor) (move : Move) → StopsBy old actors move new
+      → TellsNoCheckpoint old.machine.trace → TellsNoCheckpoint new.machine.trace

@@ -1,6 +1,6 @@
 //! The laws: what holds of each crash.
 
-ghost use Rattle.rm_crash.specs.Laws.{AcknowledgedStay, CrashImagesAreFound, FoundIsOfLog, FreshIsFound, RestartImagesAreFound, RestartedLogsOpen, RestartsRecover};
+ghost use Rattle.rm_crash.specs.Laws.{AcknowledgedStay, CrashImagesAreFound, FoundIsOfLog, FreshIsFound, RestartImagesAreFound, RestartedLogsOpen, RestartsRecover, ScriptsMakeNoCheckpoint};
 
 /// A volume that was just made is what an opening takes, with an empty log.
 #[tactic(auto, using(crate::proofs::Images::fresh_is_found))]
@@ -43,4 +43,10 @@ pub fn acknowledged_transactions_stay()
 #[tactic(auto, using(crate::proofs::Crashes::restarts_recover))]
 pub fn a_restart_recovers()
     ensures { RestartsRecover }
+{}
+
+/// The run of a script makes no checkpoint.
+#[tactic(auto, using(crate::proofs::Scripts::scripts_make_no_checkpoint))]
+pub fn scripts_make_no_checkpoint()
+    ensures { ScriptsMakeNoCheckpoint }
 {}
