@@ -1,14 +1,13 @@
 -- Each image that a crash leaves is found again, with the rows of a run's first transactions.
-use Rattle.std.specs.Prelude.{◌≡◌, ◌⊎◌, ℕ, ◌+◌, ◌-◌, ◌<◌, ◌≤◌, List, [], ◌∷◌, ◌++◌, drop, length}
+use Rattle.std.specs.Prelude.{◌≡◌, ◌⊎◌, ℕ, ◌+◌, ◌-◌, ◌≤◌, List, [], ◌∷◌, ◌++◌, drop, length}
 use Rattle.std.specs.List.{AllByRecursion}
-use Rattle.std.proofs.Common.{inl, inr, refl, sym, ap, subst, ◌∙◌, arith}
+use Rattle.std.proofs.Common.{inl, inr, sym, ap, subst, ◌∙◌, arith}
 use Rattle.std.proofs.lemmas.List.{append_assoc, append_cancel_right, append-nil, drop_at, length-append}
 use Rattle.rm_types.specs.declared.areas.Area.TheVariants.{Log}
 use Rattle.rm_types.specs.declared.formats.Format.{Format}
 use Rattle.rm_types.specs.declared.numbers.Rid.{Rid}
 use Rattle.rm_types.specs.declared.numbers.TheConstants.{MAX_LOG}
-use Rattle.rm_outside.specs.Images.{Image, KeepsOthers}
-use Rattle.rm_master.specs.declared.fields.Fields.{Fields}
+use Rattle.rm_outside.specs.Images.{Image}
 use Rattle.rm_model.specs.Categories.{category_of}
 use Rattle.rm_history.specs.declared.TheConstants.{BATCH_HEADER}
 use Rattle.rm_history.specs.Acts.{History, changes, undoes, enters, commits, ends, marks}
@@ -24,7 +23,7 @@ use Rattle.rm_history.proofs.Prefixes.{legal_is_in_order, legal_prefixes}
 use Rattle.rm_history.proofs.Readings.{log_once}
 use Rattle.rm_history.proofs.Restarts.{restarts_are_legal}
 use Rattle.rm_core.specs.Below.{Rows}
-use Rattle.rm_core.specs.Names.{Event, IsAcknowledged, IsAmong, Machine, commits_in, order_of}
+use Rattle.rm_core.specs.Names.{IsAcknowledged, IsAmong, Machine, commits_in, order_of}
 use Rattle.rm_core.specs.Orders.{rows_after}
 use Rattle.rm_core.proofs.RestartRoom.{room_is_kept}
 use Rattle.rm_core.proofs.Runs.{run_kept}
@@ -32,10 +31,10 @@ use Rattle.rm_core.proofs.Serials.{runs_are_serial}
 use Rattle.rm_core.proofs.Told.{acknowledged_is_durable}
 use Rattle.rm_image.specs.ImageLaws.{IsOfTxn}
 use Rattle.rm_image.specs.Starts.{Start}
-use Rattle.rm_pool.specs.Journals.{Begins, IsBetween}
+use Rattle.rm_pool.specs.Journals.{IsBetween}
 use Rattle.rm_pool.proofs.Journals.{from_first}
 use Rattle.rm_crash.proofs.Restarting.{AreSteps, IsRestarting}
-use Rattle.rm_crash.specs.Crashes.{IsFound, start_of, IsRunFrom, IsCrashImage, first_of, IsRecovered}
+use Rattle.rm_crash.specs.Crashes.{start_of, IsRunFrom, first_of}
 use Rattle.rm_crash.specs.Laws.{RestartedLogsOpen, RestartImagesAreFound, CrashImagesAreFound, AcknowledgedStay, RestartsRecover}
 use Rattle.rm_crash.proofs.Cuts.{either_cut, all_append, all_after, below_after, committed_in, committed_both, commits_counted, among_either, among_first}
 use Rattle.rm_crash.proofs.Cuts.{finished_later, not_again, after_none}
@@ -149,7 +148,7 @@ module _ (first : History) (m : Machine) (from : IsRunFrom first m) (sound : IsS
     both = append_cancel_right (added.past ++ steps.more) (newer ++ more) first (
         append_assoc added.past steps.more first ∙ ap (λ (h : History). added.past ++ h) (sym steps.is) ∙ sym added.is ∙ is
         ∙ sym (append_assoc newer more first)
-    )
+        )
 
     -- in the run, or in the restart before it
     record InRun : Type 0 where

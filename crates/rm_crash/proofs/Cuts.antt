@@ -1,9 +1,9 @@
 -- Histories that are cut in two, and the transactions that commit in them.
-use Rattle.std.specs.Prelude.{◌≡◌, ◌⊎◌, ℕ, ◌+◌, ◌-◌, List, [], ◌∷◌, ◌++◌, drop, length, map}
+use Rattle.std.specs.Prelude.{◌≡◌, ◌⊎◌, ℕ, ◌-◌, List, [], ◌∷◌, ◌++◌, length, map}
 use Rattle.std.specs.List.{AllByRecursion}
-use Rattle.std.proofs.Common.{inl, inr, refl, sym, ap, subst, ◌∙◌, arith}
-use Rattle.std.proofs.lemmas.List.{append_assoc, append_cancel_right, drop_all, drop_at, length-append}
-use Rattle.rm_history.specs.Acts.{Act, History, changes, undoes, enters, commits, ends, marks}
+use Rattle.std.proofs.Common.{inl, inr, refl, sym, ap, subst, arith}
+use Rattle.std.proofs.lemmas.List.{drop_all}
+use Rattle.rm_history.specs.Acts.{History, changes, undoes, enters, commits, ends, marks}
 use Rattle.rm_history.specs.Batched.{AreBelow}
 use Rattle.rm_history.specs.Rules.{IsInOrder}
 use Rattle.rm_history.specs.Transactions.{IsFinished}

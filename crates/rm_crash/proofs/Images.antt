@@ -1,8 +1,7 @@
 -- Images, and the histories of their logs.
-use Rattle.std.specs.Prelude.{◌≡◌, ◌≢◌, ℕ, ◌+◌, ◌≤◌, List, [], ◌∷◌, ◌++◌, length}
-use Rattle.std.proofs.Common.{inl, refl, sym, ap, subst, ◌∙◌, arith}
+use Rattle.std.specs.Prelude.{◌≡◌, ◌≢◌, ℕ, ◌+◌, ◌≤◌, List, [], ◌∷◌, length}
+use Rattle.std.proofs.Common.{inl, refl, sym, ap, subst, arith}
 use Rattle.rm_types.specs.declared.areas.Area.TheVariants.{Master, Log}
-use Rattle.rm_types.specs.declared.formats.Format.TheVariants.{One}
 use Rattle.rm_types.specs.declared.numbers.TheConstants.{MAX_LOG}
 use Rattle.rm_outside.specs.Images.{Bytes, Image, KeepsOthers}
 use Rattle.rm_master.specs.declared.fields.Fields.{Fields}

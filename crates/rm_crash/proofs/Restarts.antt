@@ -5,11 +5,10 @@ use Rattle.std.proofs.lemmas.Bool.{eq-eqb}
 use Rattle.std.proofs.lemmas.List.{append_assoc}
 use Rattle.rm_types.specs.declared.formats.Format.{Format}
 use Rattle.rm_history.specs.Acts.{Change, History, undoes, enters, ends}
-use Rattle.rm_history.specs.Contents.{entry_of}
 use Rattle.rm_history.specs.Legal.{IsLegal}
 use Rattle.rm_history.specs.Losers.{losers_of, with_number, without_number}
 use Rattle.rm_history.specs.Pending.{pending_of, of_txn, all_pending, without}
-use Rattle.rm_history.specs.Undoing.{category_after, entry_for, undo_for, Undone, AllUndone, AllEnded, Restarted}
+use Rattle.rm_history.specs.Undoing.{entry_for, undo_for, Undone, AllUndone, AllEnded, Restarted}
 use Rattle.rm_history.proofs.AllPending.{pending_of-newest}
 use Rattle.rm_history.proofs.Chains.{last_is_unfinished}
 use Rattle.rm_history.proofs.Finished.{last_has_record}

@@ -1,10 +1,10 @@
 -- What a run adds to the log that it opened: records of transactions on pages of the file, and the commits of its trace.
-use Rattle.std.specs.Prelude.{◌≡◌, ℕ, ◌<◌, List, [], ◌∷◌, ◌++◌, length, Option, Some, None}
+use Rattle.std.specs.Prelude.{◌≡◌, ℕ, ◌<◌, List, [], ◌∷◌, ◌++◌, Option, Some, None}
 use Rattle.std.specs.List.{AllByRecursion}
 use Rattle.rm_types.specs.declared.formats.Format.{Format}
 use Rattle.rm_history.specs.Batched.{AreBelow}
-use Rattle.rm_core.specs.Below.{Act, History, lists, marks, Actor, Seen}
-use Rattle.rm_core.specs.Names.{effect, goes_to, logging, staged, with_effect, after, Event, event_of, May, Machine, IsRun, Opening, order_of, Stage, idle}
+use Rattle.rm_core.specs.Below.{Act, History, lists, marks}
+use Rattle.rm_core.specs.Names.{effect, logging, staged, after, Event, event_of, May, Machine, IsRun, Opening, order_of, Stage, idle}
 use Rattle.rm_core.specs.Names.{wants, tries, alters, sets, settles, Seat, State, seat_at, Turn, insert, alter, settle, commit, prepare, compensate, end}
 use Rattle.rm_core.proofs.Names.{nat_tests, arith, refl, sym, ap, subst, ◌∙◌}
 use Rattle.rm_core.proofs.Runs.{kept_along, seat_of, setting_of, seat_empty, each_seat}

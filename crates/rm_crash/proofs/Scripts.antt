@@ -1,5 +1,5 @@
 -- The run of a script makes no checkpoint.
-use Rattle.std.specs.Prelude.{ℕ, suc, Bool, true, false, List, [], ◌∷◌, Option, Some, None}
+use Rattle.std.specs.Prelude.{ℕ, suc, Bool, false, List, [], ◌∷◌, Option, Some, None}
 use Rattle.std.proofs.Common.{sym, subst}
 use Rattle.rm_core.specs.Below.{Actor, Session, Flush, Op}
 use Rattle.rm_core.specs.Names.{Move, Seat, State, Turn, again, answered, log_full, rests, seat_at, seen_of, skip, spent, traced, turns}

@@ -1,10 +1,9 @@
 -- What each step of restart's undo leaves, and all of them.
 use Rattle.std.specs.Prelude.{◌≡◌, ◌⊎◌, ℕ, suc, ◌+◌, ◌<◌, ◌≤◌, List, [], ◌∷◌, ◌++◌}
 use Rattle.std.specs.List.{AllByRecursion}
-use Rattle.std.proofs.Common.{inl, inr, refl, sym, ap, subst, ◌∙◌, arith}
+use Rattle.std.proofs.Common.{inl, inr, refl, sym, subst, ◌∙◌, arith}
 use Rattle.rm_types.specs.declared.formats.Format.{Format}
 use Rattle.rm_types.specs.declared.numbers.Rid.{Rid}
-use Rattle.rm_record.specs.Records.{spelling}
 use Rattle.rm_history.specs.declared.TheConstants.{BATCH_HEADER}
 use Rattle.rm_history.specs.Acts.{Act, Change, Undo, Finish, History, changes, undoes, enters, commits, ends, marks, lsn_of, newest_lsn}
 use Rattle.rm_history.specs.Batched.{IsBelow, AreBelow}
@@ -30,7 +29,7 @@ use Rattle.rm_history.proofs.Sizes.{entry_size, end_size, next_within}
 use Rattle.rm_history.proofs.UndoBytes.{undo_bytes-entered, undo_bytes-undone, undo_bytes-ended}
 use Rattle.rm_history.proofs.UndoTheorem.{no_undo_lacks_room}
 use Rattle.rm_image.specs.ImageLaws.{IsOfTxn}
-use Rattle.rm_crash.proofs.Restarting.{SetsEntry, UndoesNewest, EndsLoser, IsStep, AreSteps}
+use Rattle.rm_crash.proofs.Restarting.{IsStep, AreSteps}
 use Rattle.rm_crash.proofs.Cuts.{committed_in}
 
 -- a change is of a page of the file,

@@ -16,7 +16,7 @@ use Rattle.rm_history.specs.Rows.{rows_of_log}
 use Rattle.rm_history.specs.Undoing.{Restarted}
 use Rattle.rm_history.specs.UndoLaws.{IsRestarted}
 use Rattle.rm_core.specs.Below.{Seen}
-use Rattle.rm_core.specs.Names.{Event, IsAcknowledged, IsAmong, IsRun, Machine, Setting, commits_in, order_of}
+use Rattle.rm_core.specs.Names.{Event, IsAcknowledged, IsAmong, IsRun, Machine, commits_in, order_of}
 use Rattle.rm_core.specs.Orders.{rows_after}
 use Rattle.rm_image.specs.ImageLaws.{IsOfTxn}
 use Rattle.rm_image.specs.Starts.{Start}

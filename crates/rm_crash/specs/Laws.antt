@@ -1,6 +1,5 @@
 -- What holds of each crash, in a run, in a restart, and in a run after a restart after a crash.
 use Rattle.std.specs.Prelude.{◌≡◌, ℕ, ◌^◌, ◌<◌, ◌≤◌, Bool, List, [], ◌++◌}
-use Rattle.rm_types.specs.declared.formats.Format.{Format}
 use Rattle.rm_types.specs.declared.formats.Format.TheVariants.{One}
 use Rattle.rm_types.specs.declared.areas.Area.TheVariants.{Log}
 use Rattle.rm_types.specs.declared.numbers.TheConstants.{MAX_LOG}

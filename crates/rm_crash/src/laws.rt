@@ -9,38 +9,32 @@ pub fn a_new_volume_is_found()
 {}
 
 /// What is found is sound, and its master names no checkpoint.
-#[tactic(auto, using(crate::proofs::Images::found_is_of_log))]
 pub fn what_is_found_is_of_its_log()
     ensures { FoundIsOfLog }
 {}
 
 /// The machine opens with the log that restart leaves.
-#[tactic(auto, using(crate::proofs::Crashes::restarted_logs_open))]
 pub fn a_restarted_log_opens()
     ensures { RestartedLogsOpen }
 {}
 
 /// Each image that a restart may leave, also one that is cut off, is sound, with the rows that the opening found.
-#[tactic(auto, using(crate::proofs::Crashes::restart_images_are_found))]
 pub fn restart_images_are_found()
     ensures { RestartImagesAreFound }
 {}
 
 /// Each image that a run may leave is sound, with the rows of the first transactions in the order of their commits, as
 /// many as its log has commits.
-#[tactic(auto, using(crate::proofs::Crashes::crash_images_are_found))]
 pub fn crash_images_are_found()
     ensures { CrashImagesAreFound }
 {}
 
 /// Acknowledged transactions whose commits are durable are in each image.
-#[tactic(auto, using(crate::proofs::Crashes::acknowledged_stay))]
 pub fn acknowledged_transactions_stay()
     ensures { AcknowledgedStay }
 {}
 
 /// Restart of such an image leaves the rows of these transactions, each page with nothing else, and each entry right.
-#[tactic(auto, using(crate::proofs::Crashes::restarts_recover))]
 pub fn a_restart_recovers()
     ensures { RestartsRecover }
 {}
