@@ -25,7 +25,7 @@ use Rattle.rm_pool.specs.Stores.{StoreValue}
 use Rattle.rm_recovery.specs.Redone.{HasNoMisfit, IsMisfitAt, Redoes}
 use Rattle.rm_recovery.specs.Restarting.{BeginsRestart, IsUndoDamageAt}
 use Rattle.rm_recovery.specs.declared.opening.Found.{Found}
-use Rattle.rm_recovery.specs.declared.restart.Report.{Report}
+use Rattle.rm_recovery.specs.declared.restarting.Report.{Report}
 
 -- The fields of a master that names no checkpoint: those of the content, if it is modelled.
 pub record HasRead (modelled : Type 0) (content : Image) (fields : Fields) : Type 0 where

@@ -11,11 +11,11 @@ mod laws;
 mod losers;
 mod opening;
 mod redo;
-mod restart;
+mod restarting;
 mod undo;
 
 pub use faults::RestartFault;
 pub use laws::{
     what_is_damaged_is_not_sound, what_is_not_made_is_not_sound, what_is_restarted_is_fit,
 };
-pub use restart::{Opened, Refused, Report, restart};
+pub use restarting::{Opened, Refused, Report, restart};
