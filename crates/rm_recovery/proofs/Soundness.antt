@@ -1,6 +1,6 @@
 -- What is sound is not damaged.
 use Rattle.std.specs.List.{AllByRecursion}
-use Rattle.std.proofs.Common.{◌≡◌, inl, inr, ℕ, ◌+◌, ◌≤◌, ◌<◌, List, [], ◌∷◌, ◌++◌, length, get_or, refl, sym, ap, subst, ◌∙◌, arith}
+use Rattle.std.proofs.Common.{◌≡◌, inl, inr, ℕ, ◌+◌, ◌≤◌, ◌<◌, List, [], ◌∷◌, ◌++◌, length, get_or, Some, None, refl, sym, ap, subst, ◌∙◌, arith}
 use Rattle.std.proofs.lemmas.Bool.{cases_lt}
 use Rattle.rm_types.specs.declared.areas.Area.{Area}
 use Rattle.rm_types.specs.declared.areas.Area.TheVariants.{Master, Log, Data, Space, Copy}
@@ -16,7 +16,9 @@ use Rattle.rm_master.specs.declared.fields.Fields.{Fields}
 use Rattle.rm_master.specs.Fields.{slot_bytes}
 use Rattle.rm_master.specs.Slots.{HasFields, IsUnmade, IsDamagedAt as IsMasterDamagedAt, current, slot_at}
 use Rattle.rm_master.proofs.SlotLemmas.{one_shown}
-use Rattle.rm_model.specs.Pages.{used, set_slot, slot_at as held_at}
+use Rattle.std.proofs.lemmas.Option.{none-some}
+use Rattle.rm_model.specs.Pages.{row_of, used, set_slot, slot_at as held_at}
+use Rattle.rm_model.proofs.Slots.{row_at_past}
 use Rattle.rm_record.specs.declared.records.LogRecord.{LogRecord}
 use Rattle.rm_record.specs.Records.{spelling}
 use Rattle.rm_history.specs.declared.TheConstants.{BATCH_HEADER}
@@ -92,7 +94,7 @@ below_before pages (newest ∷ more) before all = below_before pages more before
 has_row : (slots : List Slot) (number : ℕ) (row : List ℕ) → held_at slots number ≡ Row row → number < length slots
 has_row slots number row is = elim (cases_lt number (length slots)) [
   | inl inside ↦ inside
-  | inr past ↦ absurd cc
+  | inr past ↦ let none : None ≡ Some row = sym (row_at_past slots number past) ∙ ap row_of is in absurd (none-some row none)
 ]
 
 -- a change that vacates its slot is a delete, which the slot's page has

@@ -29,36 +29,36 @@ use Rattle.rm_recovery.proofs.Steps.{entered_losers, undone_losers, last_is_in, 
 -- the newest pending change, as the undo of one change asks for it
 pub has_newest : {history : History} {place : Place} (newest : IsNewest history place) → HasChangeAt history place.number place.at newest.last
 has_newest newest = record {
-  is_in = last_is_in newest.pending;
+  is_in = last_is_in _ newest.last newest.rest newest.pending;
   lsn_is = ap (λ (p : Place). p.at) (sym newest.is);
   txn_is = ap (λ (p : Place). p.number) (sym newest.is);
 }
 
 -- it is one
-right_for : {history : History} {last : Change} {rest : List Change} → all_pending history ≡ last ∷ rest
+right_for : (history : History) (last : Change) (rest : List Change) → all_pending history ≡ last ∷ rest
     → entry_of history last.rid.page ≡ category_after One history last → IsRightForNewest One history
-right_for {history} {last} {rest} pending right = λ other others are.
+right_for history last rest pending right = λ other others are.
     let both : last ∷ rest ≡ other ∷ others = sym pending ∙ are in
     let same : last ≡ other = cc in
     subst (λ (c : Change). entry_of history c.rid.page ≡ category_after One history c) same right
 
-same_newest : {history other : History} {place : Place} → other ≡ history → IsNewest history place → IsNewest other place
-same_newest {place = place} same newest = subst (λ (h : History). IsNewest h place) (sym same) newest
+same_newest : (history other : History) (place : Place) → other ≡ history → IsNewest history place → IsNewest other place
+same_newest history other place same newest = subst (λ (h : History). IsNewest h place) (sym same) newest
 
 -- nothing was logged
-pub nothing_done : {old new : History} → new ≡ old → HasSamePending old new
-nothing_done {old} same = subst (λ (h : History). HasSamePending old h) (sym same) (record { losers = refl; greatest = refl }, refl)
+pub nothing_done : (old new : History) → new ≡ old → HasSamePending old new
+nothing_done old new same = subst (λ (h : History). HasSamePending old h) (sym same) (record { losers = refl; greatest = refl }, refl)
 
 -- ---- the entry
 
-module _ {V : Type 0} {old new : StoreValue V} {place : Place} (newest : IsNewest old.journal.history place) where
+module _ {V : Type 0} (old new : StoreValue V) (place : Place) (newest : IsNewest old.journal.history place) where
   -- what the records of this transaction do
   entered_by_it : (lsn page category : ℕ) → HasSamePending old.journal.history (enters (record { lsn = lsn; txn = place.number; page = page; category = category }) ∷ old.journal.history)
   entered_by_it lsn page category =
-      entered_losers newest.known newest.pending (record { lsn = lsn; txn = place.number; page = page; category = category }) (ap (λ (p : Place). p.number) newest.is)
+      entered_losers old.journal.history newest.last newest.rest newest.known newest.pending (record { lsn = lsn; txn = place.number; page = page; category = category }) (ap (λ (p : Place). p.number) newest.is)
 
   pub settled_pending : (entered : Option Lsn) → Settled (record { 0 = place.number }) old entered new → HasSamePending old.journal.history new.journal.history
-  settled_pending None (page, is) = nothing_done (ap (λ (s : StoreValue V). s.journal.history) is)
+  settled_pending None (page, is) = nothing_done old.journal.history new.journal.history (ap (λ (s : StoreValue V). s.journal.history) is)
   settled_pending (Some lsn) (page, category, at, next, is) =
       subst (λ (h : History). HasSamePending old.journal.history h) (sym (ap (λ (s : StoreValue V). s.journal.history) is)) (entered_by_it (next_of old) page category)
 
@@ -72,19 +72,19 @@ module _ {V : Type 0} {old new : StoreValue V} {place : Place} (newest : IsNewes
       → (pages : ℕ) (first : History) → IsRestarting One pages first old.journal.history → IsRestarting One pages first new.journal.history
   settled_restarts None settled is pages first restarting = subst (IsRestarting One pages first) (sym is.1) restarting
   settled_restarts (Some lsn) (page, category, at, next, same) is pages first restarting =
-      subst (IsRestarting One pages first) (sym is.1) (goes_entered restarting newest.known newest.pending lsn.0 next is.0)
+      subst (IsRestarting One pages first) (sym is.1) (goes_entered restarting newest.last newest.rest newest.known newest.pending lsn.0 next is.0)
 
-  pub settled_step : {before after : Type 0} (entered : Option Lsn) → Settled (record { 0 = place.number }) old entered new → (after → before)
+  pub settled_step : (before after : Type 0) (entered : Option Lsn) → Settled (record { 0 = place.number }) old entered new → (after → before)
       → OfChange after old.journal.history (record { 0 = place.number }) (record { 0 = place.at })
       (λ c. SettlesFor One c old.journal.history entered new.journal.history) → Stepped before after old new
-  settled_step None (page, is) modelled settles = record {
+  settled_step before after None (page, is) modelled settles = record {
     modelled = modelled;
     opened = ap (λ (s : StoreValue V). s.journal.opened) is;
     first = ap (λ (s : StoreValue V). s.journal.first) is;
     size = ap (λ (s : StoreValue V). s.frames.size) is;
     restarts = λ models first restarting. settled_restarts None (page, is) (settles models newest.last (has_newest newest)) old.frames.size first restarting;
   }
-  settled_step (Some lsn) (page, category, at, next, is) modelled settles = record {
+  settled_step before after (Some lsn) (page, category, at, next, is) modelled settles = record {
     modelled = modelled;
     opened = ap (λ (s : StoreValue V). s.journal.opened) is;
     first = ap (λ (s : StoreValue V). s.journal.first) is;
@@ -95,9 +95,9 @@ module _ {V : Type 0} {old new : StoreValue V} {place : Place} (newest : IsNewes
 
   pub settled_right : (entered : Option Lsn) → Settled (record { 0 = place.number }) old entered new
       → SettlesFor One newest.last old.journal.history entered new.journal.history → IsRightForNewest One new.journal.history
-  settled_right None settled is = subst (IsRightForNewest One) (sym is.1) (right_for newest.pending is.0)
+  settled_right None settled is = subst (IsRightForNewest One) (sym is.1) (right_for old.journal.history newest.last newest.rest newest.pending is.0)
   settled_right (Some lsn) (page, category, at, next, same) is =
-      subst (IsRightForNewest One) (sym is.1) (right_for newest.pending (entered_right One old.journal.history newest.last lsn.0))
+      subst (IsRightForNewest One) (sym is.1) (right_for _ newest.last newest.rest newest.pending (entered_right One old.journal.history newest.last lsn.0))
 
   -- ---- the undo
 
@@ -108,40 +108,37 @@ module _ {V : Type 0} {old new : StoreValue V} {place : Place} (newest : IsNewes
     pub compensated_pending : HasOneLess old.journal.history new.journal.history
     compensated_pending =
         subst (λ (h : History). HasOneLess old.journal.history h) (sym (ap (λ (s : StoreValue V). s.journal.history) is.new_is))
-        (undone_losers newest.known newest.pending _ (ap (λ (p : Place). p.number) newest.is))
+        (undone_losers old.journal.history newest.last newest.rest newest.known newest.pending _ (ap (λ (p : Place). p.number) newest.is))
 
-    pub compensated_step : {before after : Type 0} → (after → before) → (before → IsRightForNewest One old.journal.history)
+    pub compensated_step : (before after : Type 0) → (after → before) → (before → IsRightForNewest One old.journal.history)
         → OfChange after old.journal.history (record { 0 = place.number }) (record { 0 = place.at })
         (λ c. CompensatedFor c (next_of old) old.journal.history undone new.journal.history) → Stepped before after old new
-    compensated_step modelled right undoes = record {
+    compensated_step before after modelled right done = record {
       modelled = modelled;
       opened = ap (λ (s : StoreValue V). s.journal.opened) is.new_is;
       first = ap (λ (s : StoreValue V). s.journal.first) is.new_is;
       size = ap (λ (s : StoreValue V). s.frames.size) is.new_is;
       restarts = λ models first restarting.
-          let made = undoes models newest.last (has_newest newest) in
+          let made = done models newest.last (has_newest newest) in
           let next : IsNext old.journal.history (next_of old) = subst (IsNext old.journal.history) is.lsn is.above in
           subst (IsRestarting One old.frames.size first) (sym made.new_is)
-          (goes_taken restarting newest.known newest.pending (next_of old) next (right (modelled models) newest.last newest.rest newest.pending));
+          (goes_taken restarting newest.last newest.rest newest.known newest.pending (next_of old) next (right (modelled models) newest.last newest.rest newest.pending));
     }
 
 -- ---- where it stops
 
 -- a record that cannot be written, though what it names is fixed, has no place
-no_place : {V : Type 0} {at : StoreValue V} {history : History} (what : LogRecord) → at.frames.applied ≡ history → IsNext history (next_of at)
+no_place : {V : Type 0} (at : StoreValue V) (history : History) (what : LogRecord) → at.frames.applied ≡ history → IsNext history (next_of at)
     → IsForFixed at.frames what → CannotWrite at what → HasNoPlace at.frames.size history what
-no_place what applied next fixed (inl (inl other)) = absurd (other fixed)
-no_place {at = at} what applied next fixed (inl (inr cannot)) = inl (subst (λ (h : History). CannotTake (frames_of at.frames.size h) what) applied cannot)
-no_place {at = at} what applied next fixed (inr full) = inr (next_of at, next, full)
+no_place at history what applied next fixed (inl (inl other)) = absurd (other fixed)
+no_place at history what applied next fixed (inl (inr cannot)) = inl (subst (λ (h : History). CannotTake (frames_of at.frames.size h) what) applied cannot)
+no_place at history what applied next fixed (inr full) = inr (next_of at, next, full)
 
-module _ {V : Type 0} {old : StoreValue V} {place : Place} (newest : IsNewest old.journal.history place)
+module _ {V : Type 0} (old : StoreValue V) (place : Place) (newest : IsNewest old.journal.history place)
     (applied : old.frames.applied ≡ old.journal.history) (next : IsNext old.journal.history (next_of old)) where
-  abbrev CannotAt : Place → Type 0
-  CannotAt p = CannotUndoAt One old.frames.size old.journal.history p.at
-
-  cannot_settle : CannotSettle One (record { 0 = place.number }) (record { 0 = place.at }) old newest.last → CannotAt place
+  cannot_settle : CannotSettle One (record { 0 = place.number }) (record { 0 = place.at }) old newest.last → CannotUndoAt One old.frames.size old.journal.history place.at
   cannot_settle =
-      subst (λ (p : Place). CannotSettle One (record { 0 = p.number }) (record { 0 = p.at }) old newest.last → CannotAt p) (sym newest.is)
+      subst (λ (p : Place). CannotSettle One (record { 0 = p.number }) (record { 0 = p.at }) old newest.last → CannotUndoAt One old.frames.size old.journal.history p.at) (sym newest.is)
       (λ cannot. record {
         last = newest.last;
         rest = newest.rest;
@@ -149,13 +146,13 @@ module _ {V : Type 0} {old : StoreValue V} {place : Place} (newest : IsNewest ol
         place = refl;
         why = elim cannot [
           | inl astray ↦ inl astray
-          | inr write ↦ inr (inl (no_place _ applied next (record { page = tt; block = refl }) write))
+          | inr write ↦ inr (inl (no_place _ old.journal.history _ applied next (record { page = tt; block = refl }) write))
         ];
       })
 
-  cannot_undo : IsRightForNewest One old.journal.history → CannotUndo (record { 0 = place.number }) (record { 0 = place.at }) old newest.last → CannotAt place
+  cannot_undo : IsRightForNewest One old.journal.history → CannotUndo (record { 0 = place.number }) (record { 0 = place.at }) old newest.last → CannotUndoAt One old.frames.size old.journal.history place.at
   cannot_undo right =
-      subst (λ (p : Place). CannotUndo (record { 0 = p.number }) (record { 0 = p.at }) old newest.last → CannotAt p) (sym newest.is)
+      subst (λ (p : Place). CannotUndo (record { 0 = p.number }) (record { 0 = p.at }) old newest.last → CannotUndoAt One old.frames.size old.journal.history p.at) (sym newest.is)
       (λ cannot. record {
         last = newest.last;
         rest = newest.rest;
@@ -163,27 +160,27 @@ module _ {V : Type 0} {old : StoreValue V} {place : Place} (newest : IsNewest ol
         place = refl;
         why = elim cannot [
           | inl astray ↦ inl astray
-          | inr write ↦ inr (inr (right newest.last newest.rest newest.pending, no_place _ applied next (record { page = refl; block = tt }) write))
+          | inr write ↦ inr (inr (right newest.last newest.rest newest.pending, no_place _ old.journal.history _ applied next (record { page = refl; block = tt }) write))
         ];
       })
 
-  stop_at : {after : Type 0} → (after → CannotAt place) → StopsUndo after old.frames.size old.journal.history place.at
-  stop_at cannot = λ models first restarting. record { now = old.journal.history; restarting = restarting; stops = inl (cannot models) }
+  stop_at : (after : Type 0) → (after → CannotUndoAt One old.frames.size old.journal.history place.at) → StopsUndo after old.frames.size old.journal.history place.at
+  stop_at after cannot = λ models first restarting. record { now = old.journal.history; restarting = restarting; stops = inl (cannot models) }
 
-  pub settle_stops : {after : Type 0} (stored : StoreFault) → IsDamageAt (record { 0 = place.at })
+  pub settle_stops : (after : Type 0) (stored : StoreFault) → IsDamageAt (record { 0 = place.at })
       (OfChange after old.journal.history (record { 0 = place.number }) (record { 0 = place.at }) (CannotSettle One (record { 0 = place.number }) (record { 0 = place.at }) old)) stored
       → IsStop after old.frames.size old.journal.history stored
-  settle_stops {after} (store.Fault (fault.Damaged area at)) is =
-      (is.0, subst (StopsUndo after old.frames.size old.journal.history) (sym is.1) (stop_at (λ models. cannot_settle (is.2 models newest.last (has_newest newest)))))
-  settle_stops (store.Fault (fault.Volume area)) is = tt
-  settle_stops store.NoMemory is = tt
+  settle_stops after (store.Fault (fault.Damaged area at)) is =
+      (is.0, subst (StopsUndo after old.frames.size old.journal.history) (sym is.1) (stop_at after (λ models. cannot_settle (is.2 models newest.last (has_newest newest)))))
+  settle_stops after (store.Fault (fault.Volume area)) is = tt
+  settle_stops after store.NoMemory is = tt
 
-  pub undo_stops : {before after : Type 0} (stored : StoreFault) → (after → before) → (before → IsRightForNewest One old.journal.history)
+  pub undo_stops : (before after : Type 0) (stored : StoreFault) → (after → before) → (before → IsRightForNewest One old.journal.history)
       → IsDamageAt (record { 0 = place.at })
       (OfChange after old.journal.history (record { 0 = place.number }) (record { 0 = place.at }) (CannotUndo (record { 0 = place.number }) (record { 0 = place.at }) old)) stored
       → IsStop after old.frames.size old.journal.history stored
-  undo_stops {after = after} (store.Fault (fault.Damaged area at)) modelled right is =
+  undo_stops before after (store.Fault (fault.Damaged area at)) modelled right is =
       (is.0, subst (StopsUndo after old.frames.size old.journal.history) (sym is.1)
-      (stop_at (λ models. cannot_undo (right (modelled models)) (is.2 models newest.last (has_newest newest)))))
-  undo_stops (store.Fault (fault.Volume area)) modelled right is = tt
-  undo_stops store.NoMemory modelled right is = tt
+      (stop_at after (λ models. cannot_undo (right (modelled models)) (is.2 models newest.last (has_newest newest)))))
+  undo_stops before after (store.Fault (fault.Volume area)) modelled right is = tt
+  undo_stops before after store.NoMemory modelled right is = tt

@@ -40,17 +40,17 @@ same_losers txn before known among = (
   let below : txn ≤ greatest_txn before = (known txn among).1 in omega arith,
 )
 
-is_pending : {now : History} {last : Change} {rest : List Change} → all_pending now ≡ last ∷ rest → IsOneOf (all_pending now) last
-is_pending {last = last} pending = subst (λ (all : List Change). IsOneOf all last) (sym pending) (inl refl)
+is_pending : (now : History) (last : Change) (rest : List Change) → all_pending now ≡ last ∷ rest → IsOneOf (all_pending now) last
+is_pending now last rest pending = subst (λ (all : List Change). IsOneOf all last) (sym pending) (inl refl)
 
 -- the newest pending change is in the history
-pub last_is_in : {now : History} {last : Change} {rest : List Change} → all_pending now ≡ last ∷ rest → IsIn (changes last) now
-last_is_in {now} {last} pending = pending_in now last (is_pending pending)
+pub last_is_in : (now : History) (last : Change) (rest : List Change) → all_pending now ≡ last ∷ rest → IsIn (changes last) now
+last_is_in now last rest pending = pending_in now last (is_pending now last rest pending)
 
-module _ {now : History} {last : Change} {rest : List Change} (known : AreKnown now) (pending : all_pending now ≡ last ∷ rest) where
+module _ (now : History) (last : Change) (rest : List Change) (known : AreKnown now) (pending : all_pending now ≡ last ∷ rest) where
   -- and it is of a loser
   pub last_loses : IsAmong (losers_of now) last.txn
-  last_loses = pending_loses now last (is_pending pending)
+  last_loses = pending_loses now last (is_pending now last rest pending)
 
   pub entered_losers : (e : Entry) → e.txn ≡ last.txn → HasSamePending now (enters e ∷ now)
   entered_losers e same =
@@ -68,8 +68,8 @@ module _ {now : History} {last : Change} {rest : List Change} (known : AreKnown 
       )
 
 -- the end of the first loser
-pub ended_losers : {now : History} {rest : List ℕ} (f : Finish) → AreKnown now → losers_of now ≡ f.txn ∷ rest → all_pending now ≡ [] → LosesOne now (ends f ∷ now)
-ended_losers {now} {rest} f known losers none =
+pub ended_losers : (now : History) (rest : List ℕ) (f : Finish) → AreKnown now → losers_of now ≡ f.txn ∷ rest → all_pending now ≡ [] → LosesOne now (ends f ∷ now)
+ended_losers now rest f known losers none =
     let among : IsAmong (losers_of now) f.txn = subst (λ (l : List ℕ). IsAmong l f.txn) (sym losers) (inl refl) in
     let below : f.txn ≤ greatest_txn now = (known f.txn among).1 in
     record {
@@ -82,8 +82,8 @@ ended_losers {now} {rest} f known losers none =
 
 -- ---- what restarts begin with
 
-begins_on : {first mid last : History} → Begins first mid → Begins mid last → Begins first last
-begins_on {first} one two = (two.0 ++ one.0, two.1 ∙ ap (λ (h : History). two.0 ++ h) one.1 ∙ sym (append_assoc two.0 one.0 first))
+begins_on : (first mid last : History) → Begins first mid → Begins mid last → Begins first last
+begins_on first mid last one two = (two.0 ++ one.0, two.1 ∙ ap (λ (h : History). two.0 ++ h) one.1 ∙ sym (append_assoc two.0 one.0 first))
 
 undone_begins : (format : Format) (before new : History) (all : List Change) → AllUndone format before all new → Begins before new
 undone_begins format before new [] is = ([], is)
@@ -91,16 +91,16 @@ undone_begins format before new (last ∷ rest) is =
     let one : Begins before is.0 = undone_either format before is.0 last (λ h. Begins before h) is.1
     (λ lsn above right. (undoes (undo_for lsn last) ∷ [], refl))
     (λ next lsn above later wrong. (undoes (undo_for lsn last) ∷ enters (entry_for format next before last) ∷ [], refl)) in
-    begins_on one (undone_begins format is.0 new rest is.2)
+    begins_on before is.0 new one (undone_begins format is.0 new rest is.2)
 
 ended_begins : (before new : History) (txns : List ℕ) → AllEnded before txns new → Begins before new
 ended_begins before new [] is = ([], is)
 ended_begins before new (txn ∷ rest) is =
-    begins_on (ends (record { lsn = is.1.lsn; txn = txn }) ∷ [], is.1.new_is) (ended_begins is.0 new rest is.2)
+    begins_on before is.0 new (ends (record { lsn = is.1.lsn; txn = txn }) ∷ [], is.1.new_is) (ended_begins is.0 new rest is.2)
 
 restarted_begins : (format : Format) (before new : History) → Restarted format before new → Begins before new
 restarted_begins format before new is =
-    begins_on (undone_begins format before is.undone (all_pending before) is.undoes_all) (ended_begins is.undone new (losers_of before) is.ends_all)
+    begins_on before is.undone new (undone_begins format before is.undone (all_pending before) is.undoes_all) (ended_begins is.undone new (losers_of before) is.ends_all)
 
 -- ---- a restart that has come so far
 
@@ -132,11 +132,11 @@ module _ {format : Format} {pages : ℕ} {before now : History} (restarting : Is
   in_order : IsLegal format before → IsInOrder now
   in_order legal = legal_is_in_order format now (legal_so_far restarting legal)
 
-  module _ {last : Change} {rest : List Change} (known : AreKnown now) (pending : all_pending now ≡ last ∷ rest) (lsn : ℕ) (next : IsNext now lsn) where
+  module _ (last : Change) (rest : List Change) (known : AreKnown now) (pending : all_pending now ≡ last ∷ rest) (lsn : ℕ) (next : IsNext now lsn) where
     -- ---- the page's entry is made right
 
     module _ (wrong : entry_of now last.rid.page ≡ category_after format now last → ⊥) where
-      entered : History
+      abbrev pub entered : History
       entered = enters (entry_for format lsn now last) ∷ now
 
       undone_anew : (mid : History) → Undone format entered last mid → Undone format now last mid
@@ -162,7 +162,7 @@ module _ {format : Format} {pages : ℕ} {before now : History} (restarting : Is
             (all_undone_anew restarted.undone (subst (λ (all : List Change). AllUndone format entered all restarted.undone) pending restarted.undoes_all));
         ends_all =
             subst (λ (txns : List ℕ). AllEnded restarted.undone txns new)
-            (entered_losers known pending (entry_for format lsn now last) refl).0.losers restarted.ends_all;
+            (entered_losers now last rest known pending (entry_for format lsn now last) refl).0.losers restarted.ends_all;
       }
 
       pub goes_entered : IsRestarting format pages before entered
@@ -172,20 +172,20 @@ module _ {format : Format} {pages : ℕ} {before now : History} (restarting : Is
             let entry = entry_for format lsn now last in
             let down = undo_bytes-entered format now last rest lsn (in_order legal) pending wrong (next_above now lsn next) in
             omega (arith, restarting.room legal, down, entry_size entry, next_within now lsn next);
-        below = λ below. (below_in pages now last (restarting.below below) (last_is_in pending), restarting.below below);
+        below = λ below. (below_in pages now last (restarting.below below) (last_is_in now last rest pending), restarting.below below);
       }
 
     -- ---- the change is undone, where it is
 
     module _ (right : entry_of now last.rid.page ≡ category_after format now last) where
-      taken : History
+      abbrev pub taken : History
       taken = undoes (undo_for lsn last) ∷ now
 
       is_undone : Undone format now last taken
       is_undone = record { settled = now; settles = inl (right, refl); lsn = lsn; above = next_above now lsn next; new_is = refl }
 
       one_less : HasOneLess now taken
-      one_less = undone_losers known pending (undo_for lsn last) refl
+      one_less = undone_losers now last rest known pending (undo_for lsn last) refl
 
       finishes_taken : (new : History) → Restarted format taken new → Restarted format now new
       finishes_taken new restarted = record {
@@ -206,23 +206,23 @@ module _ {format : Format} {pages : ℕ} {before now : History} (restarting : Is
         room = λ legal.
             let down = undo_bytes-undone format now taken last rest (in_order legal) pending is_undone in
             omega (arith, restarting.room legal, down, taken_size, next_within now lsn next);
-        below = λ below. (below_in pages now last (restarting.below below) (last_is_in pending), restarting.below below);
+        below = λ below. (below_in pages now last (restarting.below below) (last_is_in now last rest pending), restarting.below below);
       }
 
   -- ---- a loser ends
 
-  module _ {txn : ℕ} {rest : List ℕ} (known : AreKnown now) (losers : losers_of now ≡ txn ∷ rest) (none : all_pending now ≡ []) (lsn : ℕ) (next : IsNext now lsn) where
-    finish : Finish
+  module _ (txn : ℕ) (rest : List ℕ) (known : AreKnown now) (losers : losers_of now ≡ txn ∷ rest) (none : all_pending now ≡ []) (lsn : ℕ) (next : IsNext now lsn) where
+    abbrev pub finish : Finish
     finish = record { lsn = lsn; txn = txn }
 
-    over : History
+    abbrev pub over : History
     over = ends finish ∷ now
 
     is_over : Ended now txn over
     is_over = record { lsn = lsn; above = next_above now lsn next; new_is = refl }
 
     loses : LosesOne now over
-    loses = ended_losers finish known losers none
+    loses = ended_losers now rest finish known losers none
 
     finishes_over : (new : History) → Restarted format over new → Restarted format now new
     finishes_over new restarted =

@@ -48,12 +48,12 @@ module _ {format : Format} {pages : ℕ} {before now : History} (restarting : Is
   roomy : (next bytes : ℕ) → IsNext now next → bytes + BATCH_HEADER ≤ undo_bytes format now → MAX_LOG < next + bytes → ⊥
   roomy next bytes is few full = omega (arith, restarting.room legal, next_within now next is, room, few, full)
 
-  module _ {last : Change} {rest : List Change} (pending : all_pending now ≡ last ∷ rest) where
+  module _ (last : Change) (rest : List Change) (pending : all_pending now ≡ last ∷ rest) where
     mine : pending_of now last.txn ≡ last ∷ of_txn last.txn rest
     mine = pending_of-newest now last rest pending
 
     inside : last.rid.page < pages
-    inside = below_in pages now last (restarting.below below) (last_is_in pending)
+    inside = below_in pages now last (restarting.below below) (last_is_in now last rest pending)
 
     not_outside : IsOutside pages last → ⊥
     not_outside (inl under) =
@@ -105,9 +105,9 @@ module _ {format : Format} {pages : ℕ} {before now : History} (restarting : Is
 
   can_undo : (at : ℕ) → CannotUndoAt format pages now at → ⊥
   can_undo at cannot = elim cannot.why [
-    | inl outside ↦ not_outside cannot.pending outside
-    | inr (inl entry) ↦ can_enter cannot.pending entry
-    | inr (inr taken) ↦ can_take cannot.pending taken.0 taken.1
+    | inl outside ↦ not_outside cannot.last cannot.rest cannot.pending outside
+    | inr (inl entry) ↦ can_enter cannot.last cannot.rest cannot.pending entry
+    | inr (inr taken) ↦ can_take cannot.last cannot.rest cannot.pending taken.0 taken.1
   ]
 
   can_end : (at : ℕ) → CannotEndAt now at → ⊥

@@ -12,9 +12,9 @@ use Rattle.rm_recovery.specs.Restarting.{IsRestarting, IsUndoDamageAt}
 use Rattle.rm_recovery.specs.Undone.{IsRightForNewest, HasSameLosers, HasSamePending, HasOneLess, LosesOne, Stepped, GoesOn, StopsUndo, IsStop}
 
 module _ {V : Type 0} where
-  pub stays : {before after : Type 0} {old new : StoreValue V} → (after → before) → new.journal.opened ≡ old.journal.opened
+  pub stays : (before after : Type 0) (old new : StoreValue V) → (after → before) → new.journal.opened ≡ old.journal.opened
       → new.journal.first ≡ old.journal.first → new.frames.size ≡ old.frames.size → new.journal.history ≡ old.journal.history → Stepped before after old new
-  stays modelled opened first size history = record {
+  stays before after old new modelled opened first size history = record {
     modelled = modelled;
     opened = opened;
     first = first;
@@ -38,30 +38,30 @@ module _ {V : Type 0} where
   goes_on one two = record { known = two.known ∙ one.known; limit = two.limit ∙ one.limit }
 
   -- what stops the second of two steps stops both
-  pub stops_later : {before between after : Type 0} {old mid new : StoreValue V} → Stepped before between old mid → (after → between)
+  pub stops_later : {before between : Type 0} (after : Type 0) {old mid : StoreValue V} → Stepped before between old mid → (after → between)
       → (stored : StoreFault) → IsStop after mid.frames.size mid.journal.history stored → IsStop after old.frames.size old.journal.history stored
-  stops_later {after = after} {old = old} {mid = mid} one modelled (store.Fault (fault.Damaged area at)) is = (
+  stops_later after {old = old} {mid = mid} one modelled (store.Fault (fault.Damaged area at)) is = (
     is.0,
     λ models begun restarting.
         subst (λ (n : ℕ). IsRestarting One n begun mid.journal.history → IsUndoDamageAt One n begun at) one.size
         (is.1 models begun) (one.restarts (modelled models) begun restarting),
   )
-  stops_later one modelled (store.Fault (fault.Volume area)) is = tt
-  stops_later one modelled store.NoMemory is = tt
+  stops_later after one modelled (store.Fault (fault.Volume area)) is = tt
+  stops_later after one modelled store.NoMemory is = tt
 
 -- ---- what is pending
 
 pub same_losers_on : {old mid new : History} → HasSameLosers old mid → HasSameLosers mid new → HasSameLosers old new
 same_losers_on one two = record { losers = two.losers ∙ one.losers; greatest = two.greatest ∙ one.greatest }
 
-pub one_less_after : {old mid new : History} → HasSamePending old mid → HasOneLess mid new → HasOneLess old new
-one_less_after same less = (same_losers_on same.0 less.0, λ last rest is. less.1 last rest (same.1 ∙ is))
+pub one_less_after : (old mid new : History) → HasSamePending old mid → HasOneLess mid new → HasOneLess old new
+one_less_after old mid new same less = (same_losers_on same.0 less.0, λ last rest is. less.1 last rest (same.1 ∙ is))
 
-pub one_less_of : {old mid new : History} → mid ≡ old → HasOneLess mid new → HasOneLess old new
-one_less_of {new = new} same less = subst (λ (h : History). HasOneLess h new) same less
+pub one_less_of : (old mid new : History) → mid ≡ old → HasOneLess mid new → HasOneLess old new
+one_less_of old mid new same less = subst (λ (h : History). HasOneLess h new) same less
 
-pub same_of : {old mid new : History} → mid ≡ old → HasSamePending mid new → HasSamePending old new
-same_of {new = new} same pending = subst (λ (h : History). HasSamePending h new) same pending
+pub same_of : (old mid new : History) → mid ≡ old → HasSamePending mid new → HasSamePending old new
+same_of old mid new same pending = subst (λ (h : History). HasSamePending h new) same pending
 
-pub loses_of : {old mid new : History} → mid ≡ old → LosesOne mid new → LosesOne old new
-loses_of {new = new} same loses = subst (λ (h : History). LosesOne h new) same loses
+pub loses_of : (old mid new : History) → mid ≡ old → LosesOne mid new → LosesOne old new
+loses_of old mid new same loses = subst (λ (h : History). LosesOne h new) same loses

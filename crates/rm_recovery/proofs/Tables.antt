@@ -1,5 +1,5 @@
 -- How the losers of a log go on by a record.
-use Rattle.std.proofs.Common.{◌≡◌, inl, inr, ℕ, suc, ◌+◌, ◌<◌, ◌≤◌, Bool, true, false, cond, not, eqb, max, List, [], ◌∷◌, ◌++◌, length, map, get_or, take, drop, refl, sym, ap, subst, ◌∙◌, arith}
+use Rattle.std.proofs.Common.{◌≡◌, inl, inr, ℕ, zero, suc, ◌+◌, ◌<◌, ◌≤◌, Bool, true, false, cond, not, eqb, max, List, [], ◌∷◌, ◌++◌, length, map, get_or, take, drop, refl, sym, ap, subst, ◌∙◌, arith}
 use Rattle.std.specs.List.{filter, remove}
 use Rattle.std.specs.Ordering.{nat_cmp}
 use Rattle.std.specs.BTreeSet.{insert_key}
@@ -39,7 +39,7 @@ none_after txn first rest i none = λ k d below inside. none (suc k) d (omega (a
 pub newest_removed : (txn : ℕ) (all : List Change) (i : ℕ) (d : Place) → i < length (map place_of all) → NoneOf txn (map place_of all) i
     → (get_or (map place_of all) i d).number ≡ txn → remove (map place_of all) i ≡ map place_of (without_newest all txn)
 newest_removed txn [] i d inside none here = absurd (omega (arith, inside))
-newest_removed txn (newest ∷ before) 0 d inside none here = rw (eq-eqb newest.txn txn here) refl
+newest_removed txn (newest ∷ before) zero d inside none here = rw (eq-eqb newest.txn txn here) refl
 newest_removed txn (newest ∷ before) (suc i) d inside none here =
     rw (ne_eqb newest.txn txn (none 0 d (omega arith) (omega arith)))
     (ap (λ (l : List Place). place_of newest ∷ l)
