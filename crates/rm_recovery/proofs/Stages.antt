@@ -10,12 +10,14 @@ use Rattle.rm_types.specs.declared.numbers.Lsn.{Lsn}
 use Rattle.rm_types.specs.declared.numbers.TheConstants.{BLOCK_PAGES}
 use Rattle.rm_types.specs.declared.places.Place.{Place}
 use Rattle.rm_record.specs.declared.records.LogRecord.{LogRecord}
-use Rattle.rm_record.specs.declared.records.LogRecord.TheVariants.{Compensate, Inventory}
+use Rattle.rm_record.specs.declared.records.LogRecord.TheVariants.{Compensate, End, Inventory}
 use Rattle.rm_history.specs.Acts.{Change, History, undoes, enters}
 use Rattle.rm_history.specs.Contents.{entry_of}
+use Rattle.rm_history.specs.Losers.{IsAmong}
 use Rattle.rm_history.specs.Pending.{all_pending}
 use Rattle.rm_history.specs.Sizes.{IsNext}
-use Rattle.rm_history.specs.Undoing.{category_after, entry_for}
+use Rattle.rm_history.specs.UndoBytes.{compensate_record, inventory_record}
+use Rattle.rm_history.specs.Undoing.{category_after, entry_for, undo_for}
 use Rattle.rm_pool.specs.Frames.{CannotTake, IsForFixed}
 use Rattle.rm_pool.specs.Stores.{StoreValue, CannotWrite, next_of, on_volume, with_page, written}
 use Rattle.rm_undo.specs.Changes.{HasChangeAt, IsDamageAt, OfChange}
@@ -23,8 +25,8 @@ use Rattle.rm_undo.specs.Undoing.{CannotSettle, CannotUndo, Compensated, Compens
 use Rattle.rm_undo.specs.declared.undoing.Undone.{Undone}
 use Rattle.rm_recovery.specs.Losers.{place_of}
 use Rattle.rm_recovery.specs.Restarting.{IsRestarting, IsUndoDamageAt, CannotUndoAt, HasNoPlace, frames_of}
-use Rattle.rm_recovery.specs.Undone.{IsNewest, IsRightForNewest, HasSameLosers, HasSamePending, HasOneLess, Stepped, GoesOn, StopsUndo, IsStop}
-use Rattle.rm_recovery.proofs.Steps.{entered_losers, undone_losers, last_is_in, goes_entered, goes_taken, entered_right}
+use Rattle.rm_recovery.specs.Undone.{IsNewest, IsRightForNewest, HasSameLosers, HasSamePending, HasOneLess, IsNextLoser, LosesOne, Stepped, GoesOn, StopsUndo, IsStop}
+use Rattle.rm_recovery.proofs.Steps.{entered_losers, undone_losers, last_is_in, last_loses, goes_entered, goes_over, goes_taken, ended_losers, entered_right}
 
 -- the newest pending change, as the undo of one change asks for it
 pub has_newest : {history : History} {place : Place} (newest : IsNewest history place) → HasChangeAt history place.number place.at newest.last
@@ -33,6 +35,11 @@ has_newest newest = record {
   lsn_is = ap (λ (p : Place). p.at) (sym newest.is);
   txn_is = ap (λ (p : Place). p.number) (sym newest.is);
 }
+
+-- its transaction has an id
+pub number_some : {history : History} {place : Place} (newest : IsNewest history place) → 0 < place.number
+number_some {history} newest =
+    subst (λ (p : Place). 0 < p.number) (sym newest.is) (newest.known newest.last.txn (last_loses history newest.last newest.rest newest.known newest.pending)).0
 
 -- it is one
 right_for : (history : History) (last : Change) (rest : List Change) → all_pending history ≡ last ∷ rest
@@ -97,7 +104,7 @@ module _ {V : Type 0} (old new : StoreValue V) (place : Place) (newest : IsNewes
       → SettlesFor One newest.last old.journal.history entered new.journal.history → IsRightForNewest One new.journal.history
   settled_right None settled is = subst (IsRightForNewest One) (sym is.1) (right_for old.journal.history newest.last newest.rest newest.pending is.0)
   settled_right (Some lsn) (page, category, at, next, same) is =
-      subst (IsRightForNewest One) (sym is.1) (right_for _ newest.last newest.rest newest.pending (entered_right One old.journal.history newest.last lsn.0))
+      subst (IsRightForNewest One) (sym is.1) (right_for (enters (entry_for One lsn.0 old.journal.history newest.last) ∷ old.journal.history) newest.last newest.rest newest.pending (entered_right One old.journal.history newest.last lsn.0))
 
   -- ---- the undo
 
@@ -125,6 +132,29 @@ module _ {V : Type 0} (old new : StoreValue V) (place : Place) (newest : IsNewes
           (goes_taken restarting newest.last newest.rest newest.known newest.pending (next_of old) next (right (modelled models) newest.last newest.rest newest.pending));
     }
 
+-- ---- a transaction ends
+
+module _ {V : Type 0} (old new : StoreValue V) (txn : ℕ) (next : IsNextLoser old.journal.history txn) where
+  pub ends_some : 0 < txn
+  ends_some = (next.known txn (subst (λ (l : List ℕ). IsAmong l txn) (sym next.losers) (inl refl))).0
+
+  module _ (is : new ≡ written old (End (record { 0 = txn }))) where
+    pub ended_loses : LosesOne old.journal.history new.journal.history
+    ended_loses =
+        subst (λ (h : History). LosesOne old.journal.history h) (sym (ap (λ (s : StoreValue V). s.journal.history) is))
+        (ended_losers old.journal.history next.rest (record { lsn = next_of old; txn = txn }) next.known next.losers next.none)
+
+    pub ended_step : (before after : Type 0) → (after → before) → IsNext old.journal.history (next_of old) → Stepped before after old new
+    ended_step before after modelled at = record {
+      modelled = modelled;
+      opened = ap (λ (s : StoreValue V). s.journal.opened) is;
+      first = ap (λ (s : StoreValue V). s.journal.first) is;
+      size = ap (λ (s : StoreValue V). s.frames.size) is;
+      restarts = λ models first restarting.
+          subst (IsRestarting One old.frames.size first) (sym (ap (λ (s : StoreValue V). s.journal.history) is))
+          (goes_over restarting txn next.rest next.known next.losers next.none (next_of old) at);
+    }
+
 -- ---- where it stops
 
 -- a record that cannot be written, though what it names is fixed, has no place
@@ -146,7 +176,7 @@ module _ {V : Type 0} (old : StoreValue V) (place : Place) (newest : IsNewest ol
         place = refl;
         why = elim cannot [
           | inl astray ↦ inl astray
-          | inr write ↦ inr (inl (no_place _ old.journal.history _ applied next (record { page = tt; block = refl }) write))
+          | inr write ↦ inr (inl (no_place (with_entry old newest.last.rid.page) old.journal.history (inventory_record (entry_for One 0 old.journal.history newest.last)) applied next (record { page = tt; block = refl }) write))
         ];
       })
 
@@ -160,7 +190,7 @@ module _ {V : Type 0} (old : StoreValue V) (place : Place) (newest : IsNewest ol
         place = refl;
         why = elim cannot [
           | inl astray ↦ inl astray
-          | inr write ↦ inr (inr (right newest.last newest.rest newest.pending, no_place _ old.journal.history _ applied next (record { page = refl; block = tt }) write))
+          | inr write ↦ inr (inr (right newest.last newest.rest newest.pending, no_place (with_page old newest.last.rid.page) old.journal.history (compensate_record (undo_for 0 newest.last)) applied next (record { page = refl; block = tt }) write))
         ];
       })
 

@@ -1,5 +1,5 @@
 -- How the steps of an undo go on from one to the next.
-use Rattle.std.proofs.Common.{◌≡◌, ◌⊎◌, inl, inr, ℕ, List, [], ◌∷◌, refl, sym, ap, subst, ◌∙◌}
+use Rattle.std.proofs.Common.{◌≡◌, ◌⊎◌, inl, inr, ℕ, List, [], ◌∷◌, Result, Ok, Err, IfErr, refl, sym, ap, subst, ◌∙◌}
 use Rattle.rm_types.specs.declared.areas.Area.TheVariants.{Log}
 use Rattle.rm_types.specs.declared.faults.Fault.TheVariants as fault
 use Rattle.rm_types.specs.declared.faults.StoreFault.{StoreFault}
@@ -7,7 +7,7 @@ use Rattle.rm_types.specs.declared.faults.StoreFault.TheVariants as store
 use Rattle.rm_types.specs.declared.formats.Format.TheVariants.{One}
 use Rattle.rm_history.specs.Acts.{Change, History}
 use Rattle.rm_history.specs.Pending.{all_pending}
-use Rattle.rm_pool.specs.Stores.{StoreValue, made_durable}
+use Rattle.rm_pool.specs.Stores.{StoreValue, IsCurrent, made_durable}
 use Rattle.rm_recovery.specs.Restarting.{IsRestarting, IsUndoDamageAt}
 use Rattle.rm_recovery.specs.Undone.{IsRightForNewest, HasSameLosers, HasSamePending, HasOneLess, LosesOne, Stepped, GoesOn, StopsUndo, IsStop}
 
@@ -48,6 +48,16 @@ module _ {V : Type 0} where
   )
   stops_later after one modelled (store.Fault (fault.Volume area)) is = tt
   stops_later after one modelled store.NoMemory is = tt
+
+  pub stops_after : {T : Type 0} {before between : Type 0} (after : Type 0) {old mid : StoreValue V} → Stepped before between old mid → (after → between)
+      → (result : Result T StoreFault) → IfErr result (IsStop after mid.frames.size mid.journal.history) → IfErr result (IsStop after old.frames.size old.journal.history)
+  stops_after after one modelled (Ok done) is = tt
+  stops_after after one modelled (Err stored) is = stops_later after one modelled stored is
+
+  -- a store after a flush has all that was logged
+  pub current_on : (old new : StoreValue V) {volume : V} → IsCurrent old → (new ≡ old) ⊎ (new ≡ made_durable old volume) → IsCurrent new
+  current_on old new current (inl same) = subst IsCurrent (sym same) current
+  current_on old new current (inr flushed) = subst IsCurrent (sym flushed) current
 
 -- ---- what is pending
 

@@ -1,27 +1,37 @@
 //! What a restart keeps of the transactions of a log.
 
-ghost use Rattle.std.specs.Prelude.{◌≡◌, List, [], ◌∷◌, map, max, IfSome, IfNone, OnOk};
+ghost use Rattle.std.specs.Prelude.{◌≡◌, List, [], ◌∷◌, length, map, max, IfSome, IfNone, OnOk};
 ghost use Rattle.rm_types.specs.declared.places.Place.{Place as Places};
 ghost use Rattle.rm_record.specs.Records.{IsRecord, IsTxn};
 ghost use Rattle.rm_history.specs.Acts.{Change, History, act_of};
 ghost use Rattle.rm_history.specs.Losers.{losers_of, with_number, without_number};
 ghost use Rattle.rm_history.specs.Pending.{all_pending, without, without_newest};
-ghost use Rattle.rm_recovery.specs.Losers.{AreLosers, place_of};
+ghost use Rattle.rm_recovery.specs.Losers.{AreLosers, HasNoneBefore, IsFirstOf, place_of};
 
 use rm_record::{LogRecord, Logged};
 use rm_types::{Lsn, NoMemory, Place, TxnId};
 use std::alloc::Global;
 use std::collections::{BTreeSet, VecDeque};
 
+// Where the newest change of a transaction is, if it has one.
+fn newest_of(pending: &VecDeque<Place>, txn: TxnId) -> Option<usize>
+    ensures some { IfSome result (IsFirstOf txn.0 pending.now.items) }
+    ensures none { IfNone result (HasNoneBefore txn.0 pending.now.items (length pending.now.items)) }
+{
+    for index in 0..pending.len() {
+        if pending[index].number == txn.0 {
+            return Some(index);
+        }
+    }
+    None
+}
+
 // Takes out the newest change of a transaction, if it has one.
 fn remove_newest(pending: &mut VecDeque<Place>, txn: TxnId)
     ensures { (changes : List Change) → pending.old.items ≡ map place_of changes → pending.new.items ≡ map place_of (without_newest changes txn.0) }
 {
-    for index in 0..pending.len() {
-        if pending[index].number == txn.0 {
-            pending.remove(index);
-            return;
-        }
+    if let Some(index) = newest_of(pending, txn) {
+        pending.remove(index);
     }
 }
 

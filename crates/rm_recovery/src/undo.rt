@@ -7,7 +7,8 @@ ghost use Rattle.rm_outside.specs.Calls.{StoreFailsIn};
 ghost use Rattle.rm_history.specs.Losers.{losers_of};
 ghost use Rattle.rm_history.specs.Pending.{all_pending};
 ghost use Rattle.rm_history.specs.Transactions.{greatest_txn};
-ghost use Rattle.rm_pool.specs.Stores.{HasShortTail};
+ghost use Rattle.rm_pool.specs.Journals.{EndsNext};
+ghost use Rattle.rm_pool.specs.Stores.{HasShortTail, IsCurrent};
 ghost use Rattle.rm_recovery.specs.Losers.{AreLosers};
 ghost use Rattle.rm_recovery.specs.Undone.{GoesOn, HasOneLess, HasSameLosers, HasSamePending, IsNewest, IsNextLoser, IsRightForNewest, LosesOne, Steps, Stops};
 
@@ -26,12 +27,18 @@ fn make_room<V: Volume>(store: &mut Store<V>) -> Result<(), StoreFault>
     ensures step { Steps V.Volume store.old store.new }
     ensures goes { OnOk result (GoesOn store.old store.new) }
     ensures short { OnOk result (HasShortTail store.new) }
+    ensures next { OnOk result (EndsNext store.new.journal) }
+    ensures current { OnOk result (IsCurrent store.new) }
     ensures same { store.new.journal.history ≡ store.old.journal.history }
     ensures damaged { Stops V.Volume store.old store.new result }
     ensures cause { StoreFailsIn V.Volume log_area store.old.journal.opened store.new.journal.volume result }
 {
     match store.flush_long() {
-        Ok(()) => Ok(()),
+        Ok(()) => {
+            // Where the next record stands.
+            let _next = store.end();
+            Ok(())
+        }
         Err(fault) => Err(StoreFault::Fault(fault)),
     }
 }
@@ -40,6 +47,8 @@ fn make_room<V: Volume>(store: &mut Store<V>) -> Result<(), StoreFault>
 fn enter<V: Volume>(store: &mut Store<V>, alloc: Global, place: Place) -> Result<(), StoreFault>
     requires known { IsTrue store.old.journal.is_known }
     requires short { HasShortTail store.old }
+    requires next { EndsNext store.old.journal }
+    requires current { IsCurrent store.old }
     requires newest { IsNewest store.old.journal.history place }
     ensures step { Steps V.Volume store.old store.new }
     ensures goes { OnOk result (GoesOn store.old store.new) }
@@ -77,6 +86,8 @@ fn compensate<V: Volume>(
 ) -> Result<(), StoreFault>
     requires known { IsTrue store.old.journal.is_known }
     requires short { HasShortTail store.old }
+    requires next { EndsNext store.old.journal }
+    requires current { IsCurrent store.old }
     requires newest { IsNewest store.old.journal.history place }
     requires right { V.models_content store.old.journal.volume → IsRightForNewest One store.old.journal.history }
     ensures step { Steps V.Volume store.old store.new }
