@@ -1,15 +1,20 @@
 -- How the steps of an undo go on from one to the next.
-use Rattle.std.proofs.Common.{◌≡◌, ◌⊎◌, inl, inr, ℕ, List, [], ◌∷◌, Result, Ok, Err, IfErr, refl, sym, ap, subst, ◌∙◌}
+use Rattle.std.proofs.Common.{◌≡◌, ◌⊎◌, inl, inr, ℕ, List, [], ◌∷◌, map, Result, Ok, Err, IfErr, ◌<◌, ◌≤◌, refl, sym, ap, subst, ◌∙◌, arith}
 use Rattle.rm_types.specs.declared.areas.Area.TheVariants.{Log}
 use Rattle.rm_types.specs.declared.faults.Fault.TheVariants as fault
 use Rattle.rm_types.specs.declared.faults.StoreFault.{StoreFault}
 use Rattle.rm_types.specs.declared.faults.StoreFault.TheVariants as store
 use Rattle.rm_types.specs.declared.formats.Format.TheVariants.{One}
 use Rattle.rm_history.specs.Acts.{Change, History}
+use Rattle.rm_types.specs.declared.places.Place.{Place}
+use Rattle.rm_history.specs.Losers.{losers_of, IsAmong}
 use Rattle.rm_history.specs.Pending.{all_pending}
+use Rattle.rm_history.specs.Transactions.{greatest_txn}
 use Rattle.rm_pool.specs.Stores.{StoreValue, IsCurrent, made_durable}
+use Rattle.rm_recovery.specs.declared.losers.Losers.{Losers}
+use Rattle.rm_recovery.specs.Losers.{AreKnown, AreLosers, place_of}
 use Rattle.rm_recovery.specs.Restarting.{IsRestarting, IsUndoDamageAt}
-use Rattle.rm_recovery.specs.Undone.{IsRightForNewest, HasSameLosers, HasSamePending, HasOneLess, LosesOne, Stepped, GoesOn, StopsUndo, IsStop}
+use Rattle.rm_recovery.specs.Undone.{IsNewest, IsRightForNewest, HasSameLosers, HasSamePending, HasOneLess, LosesOne, Stepped, GoesOn, StopsUndo, IsStop}
 
 module _ {V : Type 0} where
   pub stays : (before after : Type 0) (old new : StoreValue V) → (after → before) → new.journal.opened ≡ old.journal.opened
@@ -75,3 +80,40 @@ same_of old mid new same pending = subst (λ (h : History). HasSamePending h new
 
 pub loses_of : (old mid new : History) → mid ≡ old → LosesOne mid new → LosesOne old new
 loses_of old mid new same loses = subst (λ (h : History). LosesOne h new) same loses
+
+-- ---- the losers
+
+split : (all : List Change) (place : Place) (rest : List Place) → map place_of all ≡ place ∷ rest
+    → (c : Change) × (cs : List Change) × (all ≡ c ∷ cs) × (place ≡ place_of c) × (rest ≡ map place_of cs)
+split [] place rest is = absurd cc
+split (c ∷ cs) place rest is = (c, cs, refl, cc, cc)
+
+-- the first is the newest of all that is pending
+pub newest_first : {history : History} {losers : Losers} (place : Place) (rest : List Place) → AreLosers history losers → losers.pending.items ≡ place ∷ rest
+    → IsNewest history place
+newest_first {history} place rest are is =
+    let found = split (all_pending history) place rest (sym are.pending_are ∙ is) in
+    record { last = found.0; rest = found.1; pending = found.2; is = found.3; known = are.known }
+
+-- ids stay known
+known_same : (old new : History) → AreKnown old → HasSameLosers old new → AreKnown new
+known_same old new known same = λ txn among.
+    let was = known txn (subst (λ (l : List ℕ). IsAmong l txn) same.losers among) in (was.0, omega (arith, was.1, same.greatest))
+
+-- without it they are those of the history in which it is undone
+pub losers_less : {old : History} {before : Losers} (new : History) (after : Losers) (place : Place) (rest : List Place) → AreLosers old before → HasOneLess old new
+    → before.pending.items ≡ place ∷ rest → after.pending.items ≡ rest → after.unfinished.keys ≡ before.unfinished.keys → after.greatest ≡ before.greatest
+    → AreLosers new after
+losers_less {old} new after place rest are less is kept keys greatest =
+    let found = split (all_pending old) place rest (sym are.pending_are ∙ is) in
+    record {
+      pending_are = kept ∙ found.4 ∙ ap (map place_of) (sym (less.1 found.0 found.1 found.2));
+      losers_are = keys ∙ are.losers_are ∙ sym less.0.losers;
+      greatest_is = greatest ∙ are.greatest_is ∙ sym less.0.greatest;
+      known = known_same old new are.known less.0;
+    }
+
+pub known_less : (old new : History) (first : ℕ) (rest : List ℕ) → AreKnown old → losers_of old ≡ first ∷ rest → LosesOne old new → AreKnown new
+known_less old new first rest known are loses = λ txn among.
+    let had : IsAmong rest txn = subst (λ (l : List ℕ). IsAmong l txn) (loses.losers first rest are) among in
+    let was = known txn (subst (λ (l : List ℕ). IsAmong l txn) (sym are) (inr had)) in (was.0, omega (arith, was.1, loses.greatest))

@@ -82,7 +82,7 @@ impl Losers {
 
     // A record of a transaction that is not finished by it.
     fn meet(&mut self, txn: TxnId) -> Result<(), NoMemory>
-        ensures pending { self.new.pending ≡ self.old.pending }
+        ensures pending { self.new.pending.items ≡ self.old.pending.items }
         ensures unfinished { OnOk result (self.new.unfinished.keys ≡ with_number txn.0 self.old.unfinished.keys) }
         ensures greatest { OnOk result (self.new.greatest ≡ max txn.0 self.old.greatest) }
     {
