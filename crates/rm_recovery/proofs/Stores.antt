@@ -1,5 +1,5 @@
 -- How the steps of an undo go on from one to the next.
-use Rattle.std.proofs.Common.{◌≡◌, ◌⊎◌, inl, inr, ℕ, List, [], ◌∷◌, map, Result, Ok, Err, IfErr, ◌<◌, ◌≤◌, refl, sym, ap, subst, ◌∙◌, arith}
+use Rattle.std.proofs.Common.{◌≡◌, ◌⊎◌, inl, inr, ℕ, List, [], ◌∷◌, map, Result, Ok, Err, IfErr, IsErrAnd, ◌<◌, ◌≤◌, refl, sym, ap, subst, ◌∙◌, arith}
 use Rattle.rm_types.specs.declared.areas.Area.TheVariants.{Log}
 use Rattle.rm_types.specs.declared.faults.Fault.TheVariants as fault
 use Rattle.rm_types.specs.declared.faults.StoreFault.{StoreFault}
@@ -63,6 +63,12 @@ module _ {V : Type 0} where
   pub current_on : (old new : StoreValue V) {volume : V} → IsCurrent old → (new ≡ old) ⊎ (new ≡ made_durable old volume) → IsCurrent new
   current_on old new current (inl same) = subst IsCurrent (sym same) current
   current_on old new current (inr flushed) = subst IsCurrent (sym flushed) current
+
+-- what holds of a fault holds of it passed on
+pub passed_on : {T : Type 0} {P : StoreFault → Type 0} (result : Result T StoreFault) (stored : StoreFault) → IsErrAnd result (λ given. given ≡ stored) → P stored
+    → IfErr result P
+passed_on (Ok done) stored given is = tt
+passed_on {P = P} (Err given) stored same is = subst P (sym same) is
 
 -- ---- what is pending
 

@@ -1,5 +1,5 @@
 -- How the losers of a log go on by a record.
-use Rattle.std.proofs.Common.{◌≡◌, inl, inr, ℕ, zero, suc, ◌+◌, ◌<◌, ◌≤◌, Bool, true, false, cond, not, eqb, max, List, [], ◌∷◌, ◌++◌, length, map, get_or, take, drop, Result, Ok, Err, OnOk, refl, sym, ap, subst, ◌∙◌, arith}
+use Rattle.std.proofs.Common.{◌≡◌, inl, inr, ℕ, zero, suc, ◌+◌, ◌<◌, ◌≤◌, Bool, true, false, cond, not, eqb, max, List, [], ◌∷◌, ◌++◌, length, map, get_or, take, drop, Result, Ok, Err, OnOk, Option, Some, None, IsSome, OnSome, refl, sym, ap, subst, ◌∙◌, arith}
 use Rattle.std.specs.List.{filter, remove}
 use Rattle.std.specs.Ordering.{nat_cmp}
 use Rattle.std.specs.BTreeSet.{insert_key}
@@ -47,6 +47,10 @@ none_removed txn [] none = refl
 none_removed txn (newest ∷ before) none =
     rw (ne_eqb newest.txn txn (none 0 (place_of newest) (omega arith) (omega arith)))
     (ap (λ (l : List Place). place_of newest ∷ l) (none_removed txn before (none_after txn (place_of newest) (map place_of before) _ none)))
+
+pub on_some : {T : Type 0} (P : Type 0) (o : Option T) → IsSome o → OnSome o P → P
+on_some P None some is = absurd some
+on_some P (Some x) some is = is
 
 pub first_removed : (txn : ℕ) (places kept : List Place) (at : ℕ) → IsFirstOf txn places at → kept ≡ remove places at → (all : List Change) → places ≡ map place_of all
     → kept ≡ map place_of (without_newest all txn)
@@ -99,17 +103,17 @@ known_less txn before next losers greatest known = λ k among.
 -- ---- one record more
 
 -- of a transaction that is not finished by it
-pub met : {T E : Type 0} (result : Result T E) (txn : ℕ) (before next : History) (old new : Losers) → AreLosers before old
-    → new.pending.items ≡ map place_of (all_pending next) → OnOk result (new.unfinished.keys ≡ with_number txn old.unfinished.keys)
+pub met : {T E : Type 0} (result : Result T E) (txn : ℕ) (before next : History) (old new : Losers) (items : List Place) → AreLosers before old
+    → OnOk result (new.pending.items ≡ items) → items ≡ map place_of (all_pending next) → OnOk result (new.unfinished.keys ≡ with_number txn old.unfinished.keys)
     → OnOk result (new.greatest ≡ max txn old.greatest) → losers_of next ≡ with_number txn (losers_of before) → greatest_txn next ≡ max txn (greatest_txn before)
     → 0 < txn → OnOk result (AreLosers next new)
-met (Ok done) txn before next old new are pending unfinished greatest losers ids some = record {
-  pending_are = pending;
+met (Ok done) txn before next old new items are kept pending unfinished greatest losers ids some = record {
+  pending_are = kept ∙ pending;
   losers_are = unfinished ∙ ap (with_number txn) are.losers_are ∙ sym losers;
   greatest_is = greatest ∙ ap (λ (n : ℕ). max txn n) are.greatest_is ∙ sym ids;
   known = known_more txn before next losers ids some are.known;
 }
-met (Err e) txn before next old new are pending unfinished greatest losers ids some = tt
+met (Err e) txn before next old new items are kept pending unfinished greatest losers ids some = tt
 
 -- its commit or end
 pub finished : (txn : ℕ) (before next : History) (old new : Losers) → AreLosers before old

@@ -88,14 +88,14 @@ pub record StopsWith (modelled : Type 0) (content : Image) (first history : Hist
   pub first_is : first ≡ acts_of_batches batches
   pub begins : modelled → BeginsRestart One first history
 
--- The volume stands to a journal that began when the old one was synced and read, and stopped so.
-abbrev pub StopsLater : {V : Type 0} → Ghosts V → V → V → JournalValue V → Type 0
-StopsLater g old new it = (it.volume ≡ new) × Stands g it × OnlyReads g Log old it.opened × IsAllSynced g it.opened
-    × StopsWith (g.models_content new) (g.content old) it.first it.history
+-- The volume stands to a journal that began with this one, which was synced and read, and stopped so.
+abbrev pub StopsFrom : {V : Type 0} → Ghosts V → V → V → JournalValue V → Type 0
+StopsFrom g opened new it = (it.volume ≡ new) × Stands g it × (it.opened ≡ opened) × StopsWith (g.models_content new) (g.content opened) it.first it.history
 
 -- Nothing was written, or the undo was begun.
 abbrev pub Stops : {V : Type 0} → Ghosts V → V → V → Type 0
-Stops g old new = OnlyReads g Log old new ⊎ ((it : JournalValue _) × StopsLater g old new it)
+Stops g old new = OnlyReads g Log old new
+    ⊎ ((opened : _) × OnlyReads g Log old opened × IsAllSynced g opened × ((it : JournalValue _) × StopsFrom g opened new it))
 
 -- ---- damage
 

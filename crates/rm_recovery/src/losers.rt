@@ -82,13 +82,26 @@ impl Losers {
 
     // A record of a transaction that is not finished by it.
     fn meet(&mut self, txn: TxnId) -> Result<(), NoMemory>
-        ensures pending { self.new.pending.items ≡ self.old.pending.items }
+        ensures pending { OnOk result (self.new.pending.items ≡ self.old.pending.items) }
         ensures unfinished { OnOk result (self.new.unfinished.keys ≡ with_number txn.0 self.old.unfinished.keys) }
         ensures greatest { OnOk result (self.new.greatest ≡ max txn.0 self.old.greatest) }
     {
         add(&mut self.unfinished, txn)?;
         self.greatest = txn.0.max(self.greatest);
         Ok(())
+    }
+
+    // A change of a transaction.
+    fn change(&mut self, txn: TxnId, lsn: Lsn) -> Result<(), NoMemory>
+        ensures pending { OnOk result (self.new.pending.items ≡ record { number = txn.0; at = lsn.0 } ∷ self.old.pending.items) }
+        ensures unfinished { OnOk result (self.new.unfinished.keys ≡ with_number txn.0 self.old.unfinished.keys) }
+        ensures greatest { OnOk result (self.new.greatest ≡ max txn.0 self.old.greatest) }
+    {
+        self.pending.push_front(Place {
+            number: txn.0,
+            at: lsn.0,
+        })?;
+        self.meet(txn)
     }
 
     // A transaction's commit or end.
@@ -108,15 +121,9 @@ impl Losers {
         ensures { (history : History) → AreLosers history self.old → OnOk result (AreLosers (act_of logged.now ∷ history) self.new) }
     {
         match &logged.what {
-            LogRecord::Insert { txn, .. }
-            | LogRecord::Delete { txn, .. }
-            | LogRecord::Update { txn, .. } => {
-                self.pending.push_front(Place {
-                    number: txn.0,
-                    at: logged.lsn.0,
-                })?;
-                self.meet(*txn)
-            }
+            LogRecord::Insert { txn, .. } => self.change(*txn, logged.lsn),
+            LogRecord::Delete { txn, .. } => self.change(*txn, logged.lsn),
+            LogRecord::Update { txn, .. } => self.change(*txn, logged.lsn),
             LogRecord::Compensate { txn, .. } => {
                 remove_newest(&mut self.pending, *txn);
                 self.meet(*txn)

@@ -4,7 +4,8 @@ ghost use Rattle.std.specs.Prelude.{◌≡◌, ◌≤◌, ◌^◌, IfErr, IfOk};
 ghost use Rattle.rm_types.specs.declared.formats.Format.TheVariants.{One};
 ghost use Rattle.rm_types.specs.declared.numbers.TheConstants.{MAX_LOG};
 ghost use Rattle.rm_outside.specs.Calls.{facts_of, IsAllSynced, OnlyReads};
-ghost use Rattle.rm_recovery.specs.Opening.{Finds, Opens, Stops};
+ghost use Rattle.rm_pool.specs.Journals.{JournalValue};
+ghost use Rattle.rm_recovery.specs.Opening.{Finds, Opens, Stops, StopsFrom};
 ghost use Rattle.rm_recovery.specs.Outcomes.{Explains};
 
 use crate::faults::RestartFault;
@@ -54,7 +55,7 @@ fn finish<V: Volume>(
     ensures opened { IfOk result (λ opened. opened.store.journal.opened ≡ volume) }
     ensures next { IfOk result (λ opened. (1 ≤ opened.next) × (opened.next ≤ 2 ^ 32)) }
     ensures format { IfOk result (λ opened. opened.format ≡ One) }
-    ensures stops { IfErr result (λ refused. Stops V.Volume volume refused.volume) }
+    ensures stops { IfErr result (λ refused. (it : JournalValue V) × StopsFrom V.Volume volume refused.volume it) }
     ensures cause { IfErr result (λ refused. Explains (facts_of V.Volume volume) (facts_of V.Volume refused.volume) refused.fault) }
 {
     let Found {
