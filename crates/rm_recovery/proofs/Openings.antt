@@ -8,6 +8,7 @@ use Rattle.rm_types.specs.declared.faults.StoreFault.TheVariants as store
 use Rattle.rm_types.specs.declared.formats.Format.TheVariants.{One}
 use Rattle.rm_outside.specs.Calls.{Facts, IsStoreFaultIn}
 use Rattle.rm_outside.specs.Images.{Image}
+use Rattle.rm_record.specs.declared.records.Logged.{Logged}
 use Rattle.rm_master.specs.declared.fields.Fields.{Fields}
 use Rattle.rm_master.specs.Slots.{HasFields}
 use Rattle.rm_wal.specs.Tails.{LogValue}
@@ -69,6 +70,15 @@ begun_with volume found = record {
   };
   frames = found.redone.frames;
 }
+
+pub begun_is : {V : Type 0} (volume : V) (found : Found) (records : List Logged) (journal : JournalValue V) (at : StoreValue V) → records ≡ found.records.items
+    → journal ≡ record { volume = volume; opened = volume; log = found.log; history = acts_of records; first = acts_of records; durable = acts_of records; is_known = true }
+    → at ≡ record { journal = journal; frames = found.redone.frames } → at ≡ begun_with volume found
+begun_is volume found records journal at same of is =
+    let frames : JournalValue _ → StoreValue _ = λ j. record { journal = j; frames = found.redone.frames } in
+    let with : List Logged → StoreValue _ = λ items.
+        frames (record { volume = volume; opened = volume; log = found.log; history = acts_of items; first = acts_of items; durable = acts_of items; is_known = true }) in
+    is ∙ ap frames of ∙ ap with same
 
 module _ {V : Type 0} {modelled : Type 0} {content : Image} {limit : ℕ} {found : Found} (finds : Finds modelled content limit found) (volume : V) where
   abbrev read_history : History

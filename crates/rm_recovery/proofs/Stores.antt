@@ -65,10 +65,10 @@ module _ {V : Type 0} where
   current_on old new current (inr flushed) = subst IsCurrent (sym flushed) current
 
 -- what holds of a fault holds of it passed on
-pub passed_on : {T : Type 0} {P : StoreFault → Type 0} (result : Result T StoreFault) (stored : StoreFault) → IsErrAnd result (λ given. given ≡ stored) → P stored
+pub passed_on : {T : Type 0} (P : StoreFault → Type 0) (result : Result T StoreFault) (stored : StoreFault) → IsErrAnd result (λ given. given ≡ stored) → P stored
     → IfErr result P
-passed_on (Ok done) stored given is = tt
-passed_on {P = P} (Err given) stored same is = subst P (sym same) is
+passed_on P (Ok done) stored given is = tt
+passed_on P (Err given) stored same is = subst P (sym same) is
 
 -- ---- what is pending
 

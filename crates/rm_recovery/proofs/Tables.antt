@@ -5,7 +5,7 @@ use Rattle.std.specs.Ordering.{nat_cmp}
 use Rattle.std.specs.BTreeSet.{insert_key}
 use Rattle.std.specs.BTreeMap.{is_at}
 use Rattle.std.specs.Set.{remove_key}
-use Rattle.std.proofs.lemmas.Bool.{cases_eq, cases_lt, eq-eqb, ne_eqb, lt-ltb, le-ltb}
+use Rattle.std.proofs.lemmas.Bool.{true≢false, cases_eq, cases_lt, eq-eqb, ne_eqb, lt-ltb, le-ltb}
 use Rattle.rm_types.specs.declared.places.Place.{Place}
 use Rattle.rm_history.specs.Acts.{Change, History}
 use Rattle.rm_history.specs.Losers.{losers_of, with_number, without_number, IsAmong}
@@ -49,7 +49,7 @@ none_removed txn (newest ∷ before) none =
     (ap (λ (l : List Place). place_of newest ∷ l) (none_removed txn before (none_after txn (place_of newest) (map place_of before) _ none)))
 
 pub on_some : {T : Type 0} (P : Type 0) (o : Option T) → IsSome o → OnSome o P → P
-on_some P None some is = absurd some
+on_some P None some is = absurd (true≢false (sym some))
 on_some P (Some x) some is = is
 
 pub first_removed : (txn : ℕ) (places kept : List Place) (at : ℕ) → IsFirstOf txn places at → kept ≡ remove places at → (all : List Change) → places ≡ map place_of all

@@ -1,6 +1,7 @@
 //! What a restart keeps of the transactions of a log.
 
-ghost use Rattle.std.specs.Prelude.{◌≡◌, List, [], ◌∷◌, length, map, max, IfSome, IfNone, OnOk};
+ghost use Rattle.std.specs.Prelude.{◌≡◌, List, [], ◌∷◌, ◌<◌, length, map, max, IfSome, IfNone, OnOk};
+ghost use Rattle.std.specs.VecDeque.{deque_len};
 ghost use Rattle.rm_types.specs.declared.places.Place.{Place as Places};
 ghost use Rattle.rm_record.specs.Records.{IsRecord, IsTxn};
 ghost use Rattle.rm_history.specs.Acts.{Change, History, act_of};
@@ -16,6 +17,7 @@ use std::collections::{BTreeSet, VecDeque};
 // Where the newest change of a transaction is, if it has one.
 fn newest_of(pending: &VecDeque<Place>, txn: TxnId) -> Option<usize>
     ensures some { IfSome result (IsFirstOf txn.0 pending.now.items) }
+    ensures bound { IfSome result (λ index. index < deque_len pending.now) }
     ensures none { IfNone result (HasNoneBefore txn.0 pending.now.items (length pending.now.items)) }
 {
     for index in 0..pending.len() {

@@ -1,4 +1,5 @@
 use Rattle.std.proofs.Common.{sym, ◌∙◌}
+use Rattle.rm_recovery.specs.Undone.{IsStop}
 use Rattle.rm_recovery.proofs.Stores.{goes_on, known_less, passed_on, stepped_on, stops_later}
 use Rattle.rm_recovery.proofs.undo.end_all.Goals as goal
 
@@ -18,5 +19,5 @@ loop-txn-preserved g c =
 
 pub returns-in_err-end_next-clause-damaged : goal.returns-in_err-end_next-clause-damaged
 returns-in_err-end_next-clause-damaged g c =
-    passed_on c.from_residual.result c.in_err-end_next.field-0.0 c.from_residual.ensures.1
+    passed_on (IsStop (g.V.Volume.models_content c.end_next.new.store.journal.volume) c.args.store.now.frames.size c.args.store.now.journal.history) c.from_residual.result c.in_err-end_next.field-0.0 c.from_residual.ensures.1
     (stops_later _ c.loop-txn.invariant.step c.end_next.ensures.step.modelled c.in_err-end_next.field-0.0 c.in_err-end_next.ensures.damaged)

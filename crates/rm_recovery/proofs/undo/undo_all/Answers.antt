@@ -1,5 +1,6 @@
 use Rattle.std.proofs.Common.{List, drop, length, refl, ap, ◌∙◌, arith}
 use Rattle.rm_types.specs.declared.places.Place.{Place}
+use Rattle.rm_recovery.specs.Undone.{IsStop}
 use Rattle.rm_recovery.proofs.Stores.{goes_on, losers_less, newest_first, passed_on, same_losers_on, stepped_on, stops_later}
 use Rattle.rm_recovery.proofs.undo.undo_all.Goals as goal
 
@@ -9,7 +10,7 @@ undo_newest-requires-clause-newest g c =
 
 pub returns-in_err-undo_newest-clause-damaged : goal.returns-in_err-undo_newest-clause-damaged
 returns-in_err-undo_newest-clause-damaged g c =
-    passed_on c.from_residual.result c.in_err-undo_newest.field-0.0 c.from_residual.ensures.1
+    passed_on (IsStop (g.V.Volume.models_content c.undo_newest.new.store.journal.volume) c.args.store.now.frames.size c.args.store.now.journal.history) c.from_residual.result c.in_err-undo_newest.field-0.0 c.from_residual.ensures.1
     (stops_later _ c.loop-place.invariant.step c.undo_newest.ensures.step.modelled c.in_err-undo_newest.field-0.0 c.in_err-undo_newest.ensures.damaged)
 
 pub loop-place-preserved : goal.loop-place-preserved

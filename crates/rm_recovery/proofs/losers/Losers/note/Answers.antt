@@ -1,4 +1,4 @@
-use Rattle.std.proofs.Common.{◌∷◌, inl, inr, refl, ap, ◌∙◌}
+use Rattle.std.proofs.Common.{List, ◌∷◌, inl, inr, refl, ap, ◌∙◌}
 use Rattle.rm_types.specs.declared.places.Place.{Place}
 use Rattle.rm_history.specs.Pending.{all_pending}
 use Rattle.rm_recovery.proofs.Tables.{met, finished}
@@ -8,19 +8,19 @@ pub returns-in-Insert : goal.returns-in-Insert
 returns-in-Insert c = λ history are.
     let by = (rw c.in-Insert.is at c.requires).0.by.0 in
     rw c.in-Insert.is (met c.change.result c.in-Insert.txn.0 history _ c.args.self.now c.change.new.self _ are c.change.ensures.pending
-    (ap (λ l. _ ∷ l) are.pending_are) c.change.ensures.unfinished c.change.ensures.greatest refl refl by)
+    (ap (λ (l : List Place). (record { number = c.in-Insert.txn.0; at = c.args.logged.now.lsn.0 }) ∷ l) are.pending_are) c.change.ensures.unfinished c.change.ensures.greatest refl refl by)
 
 pub returns-in-Delete : goal.returns-in-Delete
 returns-in-Delete c = λ history are.
     let by = (rw c.in-Delete.is at c.requires).0.by.0 in
     rw c.in-Delete.is (met c.change-in-Delete.result c.in-Delete.txn.0 history _ c.args.self.now c.change-in-Delete.new.self _ are c.change-in-Delete.ensures.pending
-    (ap (λ l. _ ∷ l) are.pending_are) c.change-in-Delete.ensures.unfinished c.change-in-Delete.ensures.greatest refl refl by)
+    (ap (λ (l : List Place). (record { number = c.in-Delete.txn.0; at = c.args.logged.now.lsn.0 }) ∷ l) are.pending_are) c.change-in-Delete.ensures.unfinished c.change-in-Delete.ensures.greatest refl refl by)
 
 pub returns-in-Update : goal.returns-in-Update
 returns-in-Update c = λ history are.
     let by = (rw c.in-Update.is at c.requires).0.by.0 in
     rw c.in-Update.is (met c.change-in-Update.result c.in-Update.txn.0 history _ c.args.self.now c.change-in-Update.new.self _ are c.change-in-Update.ensures.pending
-    (ap (λ l. _ ∷ l) are.pending_are) c.change-in-Update.ensures.unfinished c.change-in-Update.ensures.greatest refl refl by)
+    (ap (λ (l : List Place). (record { number = c.in-Update.txn.0; at = c.args.logged.now.lsn.0 }) ∷ l) are.pending_are) c.change-in-Update.ensures.unfinished c.change-in-Update.ensures.greatest refl refl by)
 
 pub returns-in-Compensate : goal.returns-in-Compensate
 returns-in-Compensate c = λ history are.
