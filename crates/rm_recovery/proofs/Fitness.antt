@@ -1,5 +1,5 @@
 -- What a restart leaves of a legal log is fit to go on from.
-use Rattle.std.proofs.Common.{◌≡◌, inl, inr, ℕ, ◌<◌, ◌≤◌, [], ◌∷◌, IsTrue, arith}
+use Rattle.std.proofs.Common.{inl, inr, ℕ, ◌≤◌, [], ◌∷◌, arith}
 use Rattle.rm_types.specs.declared.formats.Format.TheVariants.{One}
 use Rattle.rm_history.specs.Acts.{History, changes, undoes, enters, commits, ends, marks}
 use Rattle.rm_history.specs.Transactions.{HasRecord, greatest_txn}

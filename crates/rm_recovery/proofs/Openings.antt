@@ -1,5 +1,5 @@
 -- What is opened, and why not, by what the log and the master said.
-use Rattle.std.proofs.Common.{◌≡◌, inl, inr, ℕ, ◌+◌, ◌≤◌, true, List, [], ◌∷◌, length, refl, sym, ap, subst, ◌∙◌}
+use Rattle.std.proofs.Common.{◌≡◌, inl, inr, ℕ, ◌+◌, true, List, [], length, refl, sym, ap, subst, ◌∙◌}
 use Rattle.rm_types.specs.declared.areas.Area.{Area}
 use Rattle.rm_types.specs.declared.areas.Area.TheVariants.{Master, Log}
 use Rattle.rm_types.specs.declared.faults.Fault.TheVariants as fault
@@ -15,7 +15,7 @@ use Rattle.rm_wal.specs.Tails.{LogValue}
 use Rattle.rm_history.specs.Acts.{History, acts_of}
 use Rattle.rm_history.specs.Batched.{acts_of_batches}
 use Rattle.rm_history.specs.Counts.{repeat_count}
-use Rattle.rm_history.specs.Logs.{Batch, IsDamagedAt as IsLogDamagedAt}
+use Rattle.rm_history.specs.Logs.{IsDamagedAt as IsLogDamagedAt}
 use Rattle.rm_history.specs.Losers.{losers_of}
 use Rattle.rm_history.specs.Pending.{all_pending}
 use Rattle.rm_history.specs.Transactions.{greatest_txn}
@@ -23,8 +23,7 @@ use Rattle.rm_history.proofs.AllPending.{pending_of-none}
 use Rattle.rm_pool.specs.Journals.{JournalValue}
 use Rattle.rm_pool.specs.Stores.{StoreValue}
 use Rattle.rm_recovery.specs.declared.opening.Found.{Found}
-use Rattle.rm_recovery.specs.declared.restarting.Report.{Report}
-use Rattle.rm_recovery.specs.Opening.{Finds, HasRead, WasRead, IsDamage, Opens, StopsWith}
+use Rattle.rm_recovery.specs.Opening.{Finds, WasRead, IsDamage, Opens, StopsWith}
 use Rattle.rm_recovery.specs.Outcomes.{Explains, of_store}
 use Rattle.rm_recovery.specs.Redone.{HasNoMisfit}
 use Rattle.rm_recovery.specs.Restarting.{BeginsRestart, IsRestarting, IsUndoDamageAt}
@@ -77,7 +76,7 @@ pub begun_is : {V : Type 0} (volume : V) (found : Found) (records : List Logged)
 begun_is volume found records journal at same of is =
     let frames : JournalValue _ → StoreValue _ = λ j. record { journal = j; frames = found.redone.frames } in
     let with : List Logged → StoreValue _ = λ items.
-        frames (record { volume = volume; opened = volume; log = found.log; history = acts_of items; first = acts_of items; durable = acts_of items; is_known = true }) in
+    frames (record { volume = volume; opened = volume; log = found.log; history = acts_of items; first = acts_of items; durable = acts_of items; is_known = true }) in
     is ∙ ap frames of ∙ ap with same
 
 module _ {V : Type 0} {modelled : Type 0} {content : Image} {limit : ℕ} {found : Found} (finds : Finds modelled content limit found) (volume : V) where

@@ -7,12 +7,11 @@ use Rattle.rm_record.specs.declared.records.LogRecord.{LogRecord}
 use Rattle.rm_record.specs.declared.records.LogRecord.TheVariants.{Insert, Delete, Update, Compensate, Inventory, Commit, End, Checkpoint}
 use Rattle.rm_record.specs.declared.records.Logged.{Logged}
 use Rattle.rm_record.specs.Records.{spelling, IsRecord}
-use Rattle.rm_history.specs.Acts.{Act, History, changes, undoes, enters, commits, ends, marks, act_at, act_of, acts_onto, acts_of, lsn_of, newest_lsn}
+use Rattle.rm_history.specs.Acts.{History, changes, undoes, enters, commits, ends, marks, act_at, act_of, acts_onto, acts_of, newest_lsn}
 use Rattle.rm_history.specs.declared.TheConstants.{BATCH_HEADER}
 use Rattle.rm_history.specs.Logs.{Batch, AreBatches, gate_of}
 use Rattle.rm_history.specs.Counts.{repeat_count}
 use Rattle.rm_history.specs.Batched.{acts_after, acts_of_batches}
-use Rattle.rm_history.specs.Sizes.{record_of}
 use Rattle.rm_history.proofs.Appending.{acts_onto-append, acts_of-snoc, lsn_of-act_at, newest_of_batches}
 use Rattle.rm_history.proofs.Readings.{spelling_long}
 use Rattle.rm_history.proofs.RecordsOfActs.{record_of-act_at}

@@ -1,12 +1,11 @@
 -- What is sound is not damaged.
 use Rattle.std.specs.List.{AllByRecursion}
-use Rattle.std.proofs.Common.{◌≡◌, inl, inr, ℕ, ◌+◌, ◌≤◌, ◌<◌, List, [], ◌∷◌, ◌++◌, length, get_or, Some, None, refl, sym, ap, subst, ◌∙◌, arith}
+use Rattle.std.proofs.Common.{◌≡◌, inl, inr, ℕ, ◌+◌, ◌≤◌, ◌<◌, List, [], ◌∷◌, ◌++◌, length, Some, None, refl, sym, ap, subst, ◌∙◌, arith}
 use Rattle.std.proofs.lemmas.Bool.{cases_lt}
 use Rattle.rm_types.specs.declared.areas.Area.{Area}
 use Rattle.rm_types.specs.declared.areas.Area.TheVariants.{Master, Log, Data, Space, Copy}
 use Rattle.rm_types.specs.declared.formats.Format.{Format}
 use Rattle.rm_types.specs.declared.formats.Format.TheVariants.{One}
-use Rattle.rm_types.specs.declared.formats.TheConstants.{MAX_CATEGORY}
 use Rattle.rm_types.specs.declared.numbers.Rid.{Rid}
 use Rattle.rm_types.specs.declared.slots.Slot.{Slot}
 use Rattle.rm_types.specs.declared.slots.Slot.TheVariants.{Vacant, Row}
@@ -39,9 +38,8 @@ use Rattle.rm_history.proofs.Readings.{log_once}
 use Rattle.rm_history.proofs.RecordsOfActs.{record_of-act_at}
 use Rattle.rm_apply.specs.Redo.{CannotHave}
 use Rattle.rm_image.specs.ImageLaws.{IsOfTxn}
-use Rattle.rm_image.specs.Starts.{Start}
 use Rattle.rm_pool.proofs.Journals.{batches_end}
-use Rattle.rm_recovery.specs.Laws.{IsKept, IsOfLog}
+use Rattle.rm_recovery.specs.Laws.{IsOfLog}
 use Rattle.rm_recovery.specs.Opening.{IsDamage, IsDamageOf, IsRecordDamage, NamesCheckpoint}
 use Rattle.rm_recovery.specs.Redone.{IsMisfit, IsMisfitAt}
 use Rattle.rm_recovery.proofs.Stops.{never_stops}

@@ -1,17 +1,14 @@
 -- What the records of an undo do to a restart, and where it stops.
-use Rattle.std.proofs.Common.{◌≡◌, ◌⊎◌, inl, inr, ℕ, ◌/◌, ◌<◌, ◌≤◌, List, [], ◌∷◌, Option, Some, None, IfSome, Result, Ok, Err, IfErr, refl, sym, ap, subst, ◌∙◌}
-use Rattle.rm_types.specs.declared.areas.Area.{Area}
-use Rattle.rm_types.specs.declared.areas.Area.TheVariants.{Log}
+use Rattle.std.proofs.Common.{◌≡◌, inl, inr, ℕ, ◌<◌, List, ◌∷◌, Option, Some, None, refl, sym, ap, subst, ◌∙◌}
 use Rattle.rm_types.specs.declared.faults.Fault.TheVariants as fault
 use Rattle.rm_types.specs.declared.faults.StoreFault.{StoreFault}
 use Rattle.rm_types.specs.declared.faults.StoreFault.TheVariants as store
 use Rattle.rm_types.specs.declared.formats.Format.TheVariants.{One}
 use Rattle.rm_types.specs.declared.numbers.Lsn.{Lsn}
-use Rattle.rm_types.specs.declared.numbers.TheConstants.{BLOCK_PAGES}
 use Rattle.rm_types.specs.declared.places.Place.{Place}
 use Rattle.rm_record.specs.declared.records.LogRecord.{LogRecord}
-use Rattle.rm_record.specs.declared.records.LogRecord.TheVariants.{Compensate, End, Inventory}
-use Rattle.rm_history.specs.Acts.{Change, History, undoes, enters}
+use Rattle.rm_record.specs.declared.records.LogRecord.TheVariants.{End}
+use Rattle.rm_history.specs.Acts.{Change, History, enters}
 use Rattle.rm_history.specs.Contents.{entry_of}
 use Rattle.rm_history.specs.Losers.{IsAmong}
 use Rattle.rm_history.specs.Pending.{all_pending}
@@ -19,13 +16,12 @@ use Rattle.rm_history.specs.Sizes.{IsNext}
 use Rattle.rm_history.specs.UndoBytes.{compensate_record, inventory_record}
 use Rattle.rm_history.specs.Undoing.{category_after, entry_for, undo_for}
 use Rattle.rm_pool.specs.Frames.{CannotTake, IsForFixed}
-use Rattle.rm_pool.specs.Stores.{StoreValue, CannotWrite, next_of, on_volume, with_page, written}
+use Rattle.rm_pool.specs.Stores.{StoreValue, CannotWrite, next_of, with_page, written}
 use Rattle.rm_undo.specs.Changes.{HasChangeAt, IsDamageAt, OfChange}
 use Rattle.rm_undo.specs.Undoing.{CannotSettle, CannotUndo, Compensated, CompensatedFor, Settled, SettlesFor, with_entry}
 use Rattle.rm_undo.specs.declared.undoing.Undone.{Undone}
-use Rattle.rm_recovery.specs.Losers.{place_of}
-use Rattle.rm_recovery.specs.Restarting.{IsRestarting, IsUndoDamageAt, CannotUndoAt, HasNoPlace, frames_of}
-use Rattle.rm_recovery.specs.Undone.{IsNewest, IsRightForNewest, HasSameLosers, HasSamePending, HasOneLess, IsNextLoser, LosesOne, Stepped, GoesOn, StopsUndo, IsStop}
+use Rattle.rm_recovery.specs.Restarting.{IsRestarting, CannotUndoAt, HasNoPlace, frames_of}
+use Rattle.rm_recovery.specs.Undone.{IsNewest, IsRightForNewest, HasSamePending, HasOneLess, IsNextLoser, LosesOne, Stepped, GoesOn, StopsUndo, IsStop}
 use Rattle.rm_recovery.proofs.Steps.{entered_losers, undone_losers, last_is_in, last_loses, goes_entered, goes_over, goes_taken, ended_losers, entered_right}
 
 -- the newest pending change, as the undo of one change asks for it
@@ -209,8 +205,10 @@ module _ {V : Type 0} (old : StoreValue V) (place : Place) (newest : IsNewest ol
       → IsDamageAt (record { 0 = place.at })
       (OfChange after old.journal.history (record { 0 = place.number }) (record { 0 = place.at }) (CannotUndo (record { 0 = place.number }) (record { 0 = place.at }) old)) stored
       → IsStop after old.frames.size old.journal.history stored
-  undo_stops before after (store.Fault (fault.Damaged area at)) modelled right is =
-      (is.0, subst (StopsUndo after old.frames.size old.journal.history) (sym is.1)
-      (stop_at after (λ models. cannot_undo (right (modelled models)) (is.2 models newest.last (has_newest newest)))))
+  undo_stops before after (store.Fault (fault.Damaged area at)) modelled right is = (
+    is.0,
+    subst (StopsUndo after old.frames.size old.journal.history) (sym is.1)
+        (stop_at after (λ models. cannot_undo (right (modelled models)) (is.2 models newest.last (has_newest newest)))),
+  )
   undo_stops before after (store.Fault (fault.Volume area)) modelled right is = tt
   undo_stops before after store.NoMemory modelled right is = tt

@@ -1,11 +1,10 @@
 -- How a restart goes on by one record.
-use Rattle.std.proofs.Common.{◌≡◌, ◌⊎◌, inl, inr, ℕ, ◌+◌, ◌<◌, ◌≤◌, List, [], ◌∷◌, ◌++◌, length, max, refl, sym, ap, subst, ◌∙◌, arith}
+use Rattle.std.proofs.Common.{◌≡◌, inl, inr, ℕ, ◌+◌, ◌<◌, ◌≤◌, List, [], ◌∷◌, ◌++◌, length, max, refl, sym, ap, subst, ◌∙◌, arith}
 use Rattle.std.proofs.lemmas.Bool.{eq-eqb}
 use Rattle.std.proofs.lemmas.List.{append_assoc}
 use Rattle.rm_types.specs.declared.formats.Format.{Format}
 use Rattle.rm_record.specs.Records.{spelling}
-use Rattle.rm_history.specs.declared.TheConstants.{BATCH_HEADER}
-use Rattle.rm_history.specs.Acts.{Change, Entry, Finish, Undo, History, changes, undoes, enters, ends, newest_lsn}
+use Rattle.rm_history.specs.Acts.{Change, Entry, Finish, Undo, History, changes, undoes, enters, ends}
 use Rattle.rm_history.specs.Batched.{AreBelow, IsBelow}
 use Rattle.rm_history.specs.Contents.{entry_of}
 use Rattle.rm_history.specs.Legal.{IsLegal}
@@ -14,8 +13,8 @@ use Rattle.rm_history.specs.Pending.{all_pending, without, without_newest}
 use Rattle.rm_history.specs.Rules.{IsInOrder}
 use Rattle.rm_history.specs.Sizes.{IsNext, end_of, size_of}
 use Rattle.rm_history.specs.Transactions.{greatest_txn}
-use Rattle.rm_history.specs.UndoBytes.{undo_bytes, bytes_of, compensate_record, end_record, entry_bytes, inventory_record}
-use Rattle.rm_history.specs.Undoing.{category_after, entry_for, undo_for, Settles, Undone, AllUndone, Ended, AllEnded, Restarted}
+use Rattle.rm_history.specs.UndoBytes.{undo_bytes, compensate_record}
+use Rattle.rm_history.specs.Undoing.{category_after, entry_for, undo_for, Undone, AllUndone, Ended, AllEnded, Restarted}
 use Rattle.rm_history.proofs.AllPending.{without_newest-head}
 use Rattle.rm_history.proofs.Losers.{losers_rise, with_number-kept}
 use Rattle.rm_history.proofs.PendingSteps.{if_equal}
@@ -27,7 +26,7 @@ use Rattle.rm_history.proofs.UndoSteps.{undone_either}
 use Rattle.rm_pool.specs.Journals.{Begins, IsIn}
 use Rattle.rm_recovery.specs.Losers.{AreKnown}
 use Rattle.rm_recovery.specs.Restarting.{IsRestarting, BeginsRestart}
-use Rattle.rm_recovery.specs.Undone.{HasSameLosers, HasSamePending, HasOneLess, LosesOne}
+use Rattle.rm_recovery.specs.Undone.{HasSamePending, HasOneLess, LosesOne}
 use Rattle.rm_recovery.proofs.Members.{IsOneOf, pending_in, pending_loses}
 
 -- ---- the transactions after it
@@ -142,12 +141,12 @@ module _ {format : Format} {pages : ℕ} {before now : History} (restarting : Is
       undone_anew : (mid : History) → Undone format entered last mid → Undone format now last mid
       undone_anew mid undone = elim undone.settles [
         | inl right ↦ record {
-            settled = undone.settled;
-            settles = inr (wrong, (lsn, next_above now lsn next, right.1));
-            lsn = undone.lsn;
-            above = undone.above;
-            new_is = undone.new_is;
-          }
+          settled = undone.settled;
+          settles = inr (wrong, (lsn, next_above now lsn next, right.1));
+          lsn = undone.lsn;
+          above = undone.above;
+          new_is = undone.new_is;
+        }
         | inr again ↦ absurd (again.0 (entered_right format now last lsn))
       ]
 
@@ -231,9 +230,12 @@ module _ {format : Format} {pages : ℕ} {before now : History} (restarting : Is
           undone = now;
           undoes_all = subst (λ (all : List Change). AllUndone format now all now) (sym none) refl;
           ends_all =
-              subst (λ (txns : List ℕ). AllEnded now txns new) (sym losers)
-              (over, is_over, subst (λ (h : History). AllEnded h rest new) all
-              (subst (λ (txns : List ℕ). AllEnded restarted.undone txns new) (loses.losers txn rest losers) restarted.ends_all));
+              subst (λ (txns : List ℕ). AllEnded now txns new) (sym losers) (
+                over,
+                is_over,
+                subst (λ (h : History). AllEnded h rest new) all
+                    (subst (λ (txns : List ℕ). AllEnded restarted.undone txns new) (loses.losers txn rest losers) restarted.ends_all),
+              );
         }
 
     pub goes_over : IsRestarting format pages before over

@@ -1,5 +1,5 @@
 -- A sound log is restarted to its end: what undoes a change, or ends a transaction, always has its place.
-use Rattle.std.proofs.Common.{◌≡◌, ◌⊎◌, inl, inr, ℕ, ◌+◌, ◌<◌, ◌≤◌, List, [], ◌∷◌, length, refl, sym, ap, subst, ◌∙◌, arith}
+use Rattle.std.proofs.Common.{◌≡◌, inl, inr, ℕ, ◌+◌, ◌<◌, ◌≤◌, List, ◌∷◌, length, refl, ap, subst, ◌∙◌, arith}
 use Rattle.std.proofs.lemmas.Bool.{cases_eq}
 use Rattle.rm_types.specs.declared.formats.Format.{Format}
 use Rattle.rm_types.specs.declared.formats.Format.TheVariants.{One}
@@ -11,16 +11,15 @@ use Rattle.rm_types.specs.declared.slots.TheConstants.{CAPACITY}
 use Rattle.rm_model.specs.Pages.{used, set_slot}
 use Rattle.rm_record.specs.Records.{spelling}
 use Rattle.rm_history.specs.declared.TheConstants.{BATCH_HEADER}
-use Rattle.rm_history.specs.Acts.{Change, Undo, History, changes, undoes, ends, newest_lsn}
+use Rattle.rm_history.specs.Acts.{Change, Undo, History, undoes, ends, newest_lsn}
 use Rattle.rm_history.specs.Batched.{AreBelow}
 use Rattle.rm_history.specs.Contents.{entry_of, page_of}
 use Rattle.rm_history.specs.Laws.{AreChained}
 use Rattle.rm_history.specs.Legal.{IsLegal}
-use Rattle.rm_history.specs.Losers.{losers_of}
-use Rattle.rm_history.specs.Pending.{all_pending, pending_of, of_txn, last_of, AreFalling}
+use Rattle.rm_history.specs.Pending.{all_pending, pending_of, of_txn, AreFalling}
 use Rattle.rm_history.specs.Rules.{IsInOrder}
 use Rattle.rm_history.specs.Sizes.{IsNext, end_of}
-use Rattle.rm_history.specs.UndoBytes.{undo_bytes, bytes_of, compensate_record, end_record, entry_bytes, inventory_record}
+use Rattle.rm_history.specs.UndoBytes.{undo_bytes, bytes_of, compensate_record, end_record, inventory_record}
 use Rattle.rm_history.specs.Undoing.{category_after, entry_for, undo_for, Undone, Ended}
 use Rattle.rm_history.proofs.AllPending.{pending_of-newest}
 use Rattle.rm_history.proofs.Chains.{last_is_inside, last_is_unfinished}

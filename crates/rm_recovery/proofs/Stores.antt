@@ -1,6 +1,5 @@
 -- How the steps of an undo go on from one to the next.
-use Rattle.std.proofs.Common.{◌≡◌, ◌⊎◌, inl, inr, ℕ, List, [], ◌∷◌, map, Result, Ok, Err, IfErr, IsErrAnd, ◌<◌, ◌≤◌, refl, sym, ap, subst, ◌∙◌, arith}
-use Rattle.rm_types.specs.declared.areas.Area.TheVariants.{Log}
+use Rattle.std.proofs.Common.{◌≡◌, ◌⊎◌, inl, inr, ℕ, List, [], ◌∷◌, map, Result, Ok, Err, IfErr, IsErrAnd, refl, sym, ap, subst, ◌∙◌, arith}
 use Rattle.rm_types.specs.declared.faults.Fault.TheVariants as fault
 use Rattle.rm_types.specs.declared.faults.StoreFault.{StoreFault}
 use Rattle.rm_types.specs.declared.faults.StoreFault.TheVariants as store
@@ -9,12 +8,11 @@ use Rattle.rm_history.specs.Acts.{Change, History}
 use Rattle.rm_types.specs.declared.places.Place.{Place}
 use Rattle.rm_history.specs.Losers.{losers_of, IsAmong}
 use Rattle.rm_history.specs.Pending.{all_pending}
-use Rattle.rm_history.specs.Transactions.{greatest_txn}
 use Rattle.rm_pool.specs.Stores.{StoreValue, IsCurrent, made_durable}
 use Rattle.rm_recovery.specs.declared.losers.Losers.{Losers}
 use Rattle.rm_recovery.specs.Losers.{AreKnown, AreLosers, place_of}
 use Rattle.rm_recovery.specs.Restarting.{IsRestarting, IsUndoDamageAt}
-use Rattle.rm_recovery.specs.Undone.{IsNewest, IsRightForNewest, HasSameLosers, HasSamePending, HasOneLess, LosesOne, Stepped, GoesOn, StopsUndo, IsStop}
+use Rattle.rm_recovery.specs.Undone.{IsNewest, HasSameLosers, HasSamePending, HasOneLess, LosesOne, Stepped, GoesOn, IsStop}
 
 module _ {V : Type 0} where
   pub stays : (before after : Type 0) (old new : StoreValue V) → (after → before) → new.journal.opened ≡ old.journal.opened

@@ -1,5 +1,5 @@
 -- How the losers of a log go on by a record.
-use Rattle.std.proofs.Common.{◌≡◌, inl, inr, ℕ, zero, suc, ◌+◌, ◌<◌, ◌≤◌, Bool, true, false, cond, not, eqb, max, List, [], ◌∷◌, ◌++◌, length, map, get_or, take, drop, Result, Ok, Err, OnOk, Option, Some, None, IsSome, OnSome, refl, sym, ap, subst, ◌∙◌, arith}
+use Rattle.std.proofs.Common.{◌≡◌, inl, inr, ℕ, zero, suc, ◌<◌, Bool, not, eqb, max, List, [], ◌∷◌, length, map, get_or, Result, Ok, Err, OnOk, Option, Some, None, IsSome, OnSome, refl, sym, ap, subst, ◌∙◌, arith}
 use Rattle.std.specs.List.{filter, remove}
 use Rattle.std.specs.Ordering.{nat_cmp}
 use Rattle.std.specs.BTreeSet.{insert_key}

@@ -1,12 +1,8 @@
 -- What a redo of a log has found.
-use Rattle.std.specs.Prelude.{◌≡◌, ℕ, ◌<◌, ◌≤◌, ◌⊎◌, [], ◌∷◌, ◌++◌, length}
+use Rattle.std.specs.Prelude.{◌≡◌, ℕ, ◌<◌, ◌≤◌, ◌⊎◌, [], ◌∷◌, ◌++◌}
 use Rattle.rm_types.specs.declared.formats.TheConstants.{MAX_CATEGORY}
-use Rattle.rm_types.specs.declared.slots.Slot.{Slot}
-use Rattle.rm_types.specs.declared.slots.Slot.TheVariants.{Vacant, Row}
-use Rattle.rm_types.specs.declared.slots.TheConstants.{CAPACITY}
-use Rattle.rm_model.specs.Pages.{used, set_slot}
 use Rattle.rm_record.specs.Records.{IsRecord}
-use Rattle.rm_history.specs.Acts.{Act, Change, Undo, Entry, History, changes, undoes, enters, commits, ends, marks, lsn_of, newest_lsn}
+use Rattle.rm_history.specs.Acts.{Act, History, changes, undoes, enters, commits, ends, marks, lsn_of, newest_lsn}
 use Rattle.rm_history.specs.Contents.{page_of}
 use Rattle.rm_history.specs.Counts.{repeat_count}
 use Rattle.rm_history.specs.Sizes.{record_of}

@@ -101,11 +101,7 @@ fn finish<V: Volume>(
 ///   a transaction finds no room in the log.
 /// - [`Fault::Volume`](rm_types::Fault::Volume) with the area that failed.
 /// - [`RestartFault::NoMemory`].
-pub fn restart<V: Volume>(
-    alloc: Global,
-    volume: V,
-    limit: u64,
-) -> Result<Opened<V>, Refused<V>>
+pub fn restart<V: Volume>(alloc: Global, volume: V, limit: u64) -> Result<Opened<V>, Refused<V>>
     requires { limit ≤ MAX_LOG }
     ensures opens { IfOk result (λ opened. Opens (V.models_content opened.store.journal.volume) (V.content volume) limit opened.store opened.next opened.report) }
     ensures reads { IfOk result (λ opened. OnlyReads V.Volume Area.Log volume opened.store.journal.opened) }

@@ -57,7 +57,13 @@ fn enter<V: Volume>(store: &mut Store<V>, alloc: Global, place: Place) -> Result
     ensures damaged { Stops V.Volume store.old store.new result }
     ensures cause { StoreFailsIn V.Volume log_area store.old.journal.opened store.new.journal.volume result }
 {
-    match undo_settle(store, alloc, Format::One, TxnId(place.number), Lsn(place.at)) {
+    match undo_settle(
+        store,
+        alloc,
+        Format::One,
+        TxnId(place.number),
+        Lsn(place.at),
+    ) {
         Ok(_) => Ok(()),
         Err(fault) => Err(fault),
     }
@@ -103,11 +109,7 @@ fn compensate<V: Volume>(
 }
 
 // The same, with room made in the log before.
-fn take_back<V: Volume>(
-    store: &mut Store<V>,
-    alloc: Global,
-    place: Place,
-) -> Result<(), StoreFault>
+fn take_back<V: Volume>(store: &mut Store<V>, alloc: Global, place: Place) -> Result<(), StoreFault>
     requires known { IsTrue store.old.journal.is_known }
     requires newest { IsNewest store.old.journal.history place }
     requires right { V.models_content store.old.journal.volume → IsRightForNewest One store.old.journal.history }

@@ -1,4 +1,4 @@
-use Rattle.std.proofs.Common.{◌≡◌, List}
+use Rattle.std.proofs.Common.{◌≡◌}
 use Rattle.std.specs.List.{remove}
 use Rattle.rm_recovery.proofs.Tables.{first_removed, none_to_remove, on_some}
 use Rattle.rm_recovery.proofs.losers.remove_newest.Goals as goal

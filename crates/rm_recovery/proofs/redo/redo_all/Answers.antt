@@ -1,4 +1,4 @@
-use Rattle.std.proofs.Common.{◌+◌, take, sym, subst, arith}
+use Rattle.std.proofs.Common.{take, sym, subst, arith}
 use Rattle.rm_history.specs.Acts.{History, acts_of}
 use Rattle.rm_pool.specs.Frames.{IsAfter}
 use Rattle.rm_recovery.specs.Redone.{Redoes}

@@ -12,8 +12,8 @@ pub returns-in-Ok-clause-opens : goal.returns-in-Ok-clause-opens
 returns-in-Ok-clause-opens g c =
     let same = begun_is c.args.volume c.args.found c.deref.result.now c.over-journal.result c.over-store.result c.deref.ensures.value c.over-journal.ensures c.over-store.ensures in
     let step =
-        subst (λ (s : StoreValue _). Stepped (g.V.Volume.models_content c.over-store.result.journal.volume)
-        (g.V.Volume.models_content c.undo_losers.new.store.journal.volume) s c.undo_losers.new.store) same c.undo_losers.ensures.step in
+    subst (λ (s : StoreValue _). Stepped (g.V.Volume.models_content c.over-store.result.journal.volume)
+    (g.V.Volume.models_content c.undo_losers.new.store.journal.volume) s c.undo_losers.new.store) same c.undo_losers.ensures.step in
     let all = c.in-Ok.ensures in
     rw c.from-next.ensures (opens c.requires.found c.args.volume (g.V.Volume.models_content c.undo_losers.new.store.journal.volume)
     (λ models. subst (λ (s : StoreValue _). g.V.Volume.models_content s.journal.volume) same models) c.undo_losers.new.store step c.in-Ok.undone
@@ -24,19 +24,26 @@ pub returns-clause-stops : goal.returns-clause-stops
 returns-clause-stops g c =
     let same = begun_is c.args.volume c.args.found c.deref.result.now c.over-journal.result c.over-store.result c.deref.ensures.value c.over-journal.ensures c.over-store.ensures in
     let step =
-        subst (λ (s : StoreValue _). Stepped (g.V.Volume.models_content c.over-store.result.journal.volume)
-        (g.V.Volume.models_content c.undo_losers.new.store.journal.volume) s c.undo_losers.new.store) same c.undo_losers.ensures.step in
-    rw c.into_volume.ensures.volume (c.undo_losers.new.store.journal, (refl, c.into_volume.ensures.stands, step.opened,
-    stops_with c.requires.found c.args.volume (g.V.Volume.models_content c.undo_losers.new.store.journal.volume)
-    (λ models. subst (λ (s : StoreValue _). g.V.Volume.models_content s.journal.volume) same models) c.undo_losers.new.store step))
+    subst (λ (s : StoreValue _). Stepped (g.V.Volume.models_content c.over-store.result.journal.volume)
+    (g.V.Volume.models_content c.undo_losers.new.store.journal.volume) s c.undo_losers.new.store) same c.undo_losers.ensures.step in
+    rw c.into_volume.ensures.volume (
+      c.undo_losers.new.store.journal,
+      (
+        refl,
+        c.into_volume.ensures.stands,
+        step.opened,
+        stops_with c.requires.found c.args.volume (g.V.Volume.models_content c.undo_losers.new.store.journal.volume)
+            (λ models. subst (λ (s : StoreValue _). g.V.Volume.models_content s.journal.volume) same models) c.undo_losers.new.store step,
+      ),
+    )
 
 pub returns-clause-cause : goal.returns-clause-cause
 returns-clause-cause g c =
     let same = begun_is c.args.volume c.args.found c.deref.result.now c.over-journal.result c.over-store.result c.deref.ensures.value c.over-journal.ensures c.over-store.ensures in
     let new = c.undo_losers.new.store in
     let step =
-        subst (λ (s : StoreValue _). Stepped (g.V.Volume.models_content c.over-store.result.journal.volume)
-        (g.V.Volume.models_content c.undo_losers.new.store.journal.volume) s c.undo_losers.new.store) same c.undo_losers.ensures.step in
+    subst (λ (s : StoreValue _). Stepped (g.V.Volume.models_content c.over-store.result.journal.volume)
+    (g.V.Volume.models_content c.undo_losers.new.store.journal.volume) s c.undo_losers.new.store) same c.undo_losers.ensures.step in
     rw (c.into_volume.ensures.volume, c.from.ensures) (explains_undo c.requires.found c.args.volume (g.V.Volume.models_content new.journal.volume)
     (λ models. subst (λ (s : StoreValue _). g.V.Volume.models_content s.journal.volume) same models) new step
     (facts_of g.V.Volume c.args.volume) (facts_of g.V.Volume new.journal.volume) c.in-Err.fault refl (λ models. models)

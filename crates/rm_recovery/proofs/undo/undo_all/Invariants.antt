@@ -1,5 +1,4 @@
 use Rattle.std.proofs.Common.{◌≡◌, ◌+◌, length}
-use Rattle.rm_history.specs.Pending.{all_pending}
 use Rattle.rm_recovery.specs.Losers.{AreLosers}
 use Rattle.rm_recovery.specs.Undone.{GoesOn, HasSameLosers, Steps}
 use Rattle.rm_recovery.proofs.undo.undo_all.Given as goal

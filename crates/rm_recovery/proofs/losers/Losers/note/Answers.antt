@@ -1,4 +1,4 @@
-use Rattle.std.proofs.Common.{List, ◌∷◌, inl, inr, refl, ap, ◌∙◌}
+use Rattle.std.proofs.Common.{List, ◌∷◌, inl, inr, refl, ap}
 use Rattle.rm_types.specs.declared.places.Place.{Place}
 use Rattle.rm_history.specs.Pending.{all_pending}
 use Rattle.rm_recovery.proofs.Tables.{met, finished}
