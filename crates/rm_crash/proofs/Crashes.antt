@@ -10,7 +10,7 @@ use Rattle.rm_types.specs.declared.numbers.TheConstants.{MAX_LOG}
 use Rattle.rm_outside.specs.Images.{Image}
 use Rattle.rm_model.specs.Categories.{category_of}
 use Rattle.rm_history.specs.declared.TheConstants.{BATCH_HEADER}
-use Rattle.rm_history.specs.Acts.{History, changes, undoes, enters, commits, ends, marks}
+use Rattle.rm_history.specs.Acts.{History, marks}
 use Rattle.rm_history.specs.Batched.{AreBelow, acts_of_batches}
 use Rattle.rm_history.specs.Legal.{IsLegal}
 use Rattle.rm_history.specs.Logs.{Batch, HasLog}
@@ -281,17 +281,9 @@ restarts_recover start fields first new trace c image restarted =
 -- an id that has a record is at most the greatest
 record_greatest : (history : History) (txn : ℕ) → HasRecord history txn → txn ≤ greatest_txn history
 record_greatest [] txn has = absurd has
-record_greatest (changes c ∷ before) txn (inl now) = omega (arith, now)
-record_greatest (changes c ∷ before) txn (inr had) = omega (arith, record_greatest before txn had)
-record_greatest (undoes u ∷ before) txn (inl now) = omega (arith, now)
-record_greatest (undoes u ∷ before) txn (inr had) = omega (arith, record_greatest before txn had)
-record_greatest (enters e ∷ before) txn (inl now) = omega (arith, now)
-record_greatest (enters e ∷ before) txn (inr had) = omega (arith, record_greatest before txn had)
-record_greatest (commits f ∷ before) txn (inl now) = omega (arith, now)
-record_greatest (commits f ∷ before) txn (inr had) = omega (arith, record_greatest before txn had)
-record_greatest (ends f ∷ before) txn (inl now) = omega (arith, now)
-record_greatest (ends f ∷ before) txn (inr had) = omega (arith, record_greatest before txn had)
 record_greatest (marks m ∷ before) txn has = record_greatest before txn has
+record_greatest (act ∷ before) txn (inl now) = omega (arith, now)
+record_greatest (act ∷ before) txn (inr had) = omega (arith, record_greatest before txn had)
 
 pub restarted_logs_open : RestartedLogsOpen
 restarted_logs_open start fields first c batches sessions next found are restarted above ids =

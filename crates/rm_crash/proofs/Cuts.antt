@@ -3,7 +3,7 @@ use Rattle.std.specs.Prelude.{◌≡◌, ◌⊎◌, ℕ, ◌-◌, List, [], ◌�
 use Rattle.std.specs.List.{AllByRecursion}
 use Rattle.std.proofs.Common.{inl, inr, refl, sym, ap, subst, arith}
 use Rattle.std.proofs.lemmas.List.{drop_all}
-use Rattle.rm_history.specs.Acts.{History, changes, undoes, enters, commits, ends, marks}
+use Rattle.rm_history.specs.Acts.{History, commits, ends}
 use Rattle.rm_history.specs.Batched.{AreBelow}
 use Rattle.rm_history.specs.Rules.{IsInOrder}
 use Rattle.rm_history.specs.Transactions.{IsFinished}
@@ -43,12 +43,8 @@ below_after pages (newest ∷ newer) before all = below_after pages newer before
 -- the transactions that commit, the newest first
 abbrev pub committed_in : History → List ℕ
 committed_in [] = []
-committed_in (changes c ∷ before) = committed_in before
-committed_in (undoes u ∷ before) = committed_in before
-committed_in (enters e ∷ before) = committed_in before
 committed_in (commits f ∷ before) = f.txn ∷ committed_in before
-committed_in (ends f ∷ before) = committed_in before
-committed_in (marks m ∷ before) = committed_in before
+committed_in (act ∷ before) = committed_in before
 
 pub committed_both : (newer more : History) → committed_in (newer ++ more) ≡ committed_in newer ++ committed_in more
 committed_both [] more = refl
@@ -72,12 +68,9 @@ among_first (one ∷ first) more txn (inr is) = inr (among_first first more txn 
 
 pub finished_later : (newer before : History) (txn : ℕ) → IsFinished before txn → IsFinished (newer ++ before) txn
 finished_later [] before txn is = is
-finished_later (changes c ∷ newer) before txn is = finished_later newer before txn is
-finished_later (undoes u ∷ newer) before txn is = finished_later newer before txn is
-finished_later (enters e ∷ newer) before txn is = finished_later newer before txn is
 finished_later (commits f ∷ newer) before txn is = inr (finished_later newer before txn is)
 finished_later (ends f ∷ newer) before txn is = inr (finished_later newer before txn is)
-finished_later (marks m ∷ newer) before txn is = finished_later newer before txn is
+finished_later (act ∷ newer) before txn is = finished_later newer before txn is
 
 -- what is finished does not commit again
 pub not_again : (newer before : History) (txn : ℕ) → IsInOrder (newer ++ before) → IsFinished before txn → IsAmong (committed_in newer) txn → ⊥

@@ -1,11 +1,12 @@
 -- Images, and the histories of their logs.
 use Rattle.std.specs.Prelude.{◌≡◌, ◌≢◌, ℕ, ◌+◌, ◌≤◌, List, [], ◌∷◌, length}
-use Rattle.std.proofs.Common.{inl, refl, sym, ap, subst, arith}
+use Rattle.std.proofs.Common.{inl, refl, sym, ap, subst, arith, ◌∙◌}
 use Rattle.rm_types.specs.declared.areas.Area.TheVariants.{Master, Log}
 use Rattle.rm_types.specs.declared.numbers.TheConstants.{MAX_LOG}
 use Rattle.rm_outside.specs.Images.{Bytes, Image, KeepsOthers}
 use Rattle.rm_master.specs.declared.fields.Fields.{Fields}
-use Rattle.rm_master.specs.Slots.{HasFields}
+use Rattle.rm_master.specs.Slots.{HasFields, current, slot_at}
+use Rattle.rm_master.proofs.SlotLemmas.{one_shown}
 use Rattle.rm_record.specs.Records.{spelling}
 use Rattle.rm_history.specs.declared.TheConstants.{BATCH_HEADER}
 use Rattle.rm_history.specs.Acts.{History, act_at}
@@ -14,13 +15,14 @@ use Rattle.rm_history.specs.Logs.{Batch, AreBatches, HasLog, Stands, gate_of}
 use Rattle.rm_history.specs.Sizes.{end_of, IsNext}
 use Rattle.rm_history.specs.UndoBytes.{undo_bytes}
 use Rattle.rm_history.proofs.Appending.{lsn_of-act_at}
+use Rattle.rm_history.proofs.Readings.{log_once}
 use Rattle.rm_image.specs.Starts.{Start}
 use Rattle.rm_image.proofs.CheckpointLaws.{checkpoints_are_records}
 use Rattle.rm_image.proofs.FreshLaws.{fresh_is_sound}
 use Rattle.rm_image.proofs.SoundLaws.{log_images_are_sound}
 use Rattle.rm_pool.proofs.Journals.{batches_end, newest_end, next_at_gate}
 use Rattle.rm_crash.specs.Crashes.{IsKept, IsFound}
-use Rattle.rm_crash.specs.Laws.{FoundIsOfLog, FreshIsFound}
+use Rattle.rm_crash.specs.Laws.{FoundIsOfLog, FoundIsRead, FreshIsFound}
 use Rattle.rm_crash.proofs.Steps.{ArePlaced}
 
 -- ---- the records of batches stand where the next ones may
@@ -74,6 +76,12 @@ found_is_of_log start fields history c found =
       names_none start fields history c found,
     )
 
+pub found_is_read : FoundIsRead
+found_is_read start fields others history c batches found has has_log = (
+  one_shown (c Master) (slot_at (current (c Master))) fields others found.sound.master.rules has.rules found.sound.master.slot has.slot,
+  sym found.history_is ∙ ap acts_of_batches (log_once (c Log) found.batches batches found.sound.has_log has_log),
+)
+
 -- an image with such a log, and with the master of one that was found, is found too
 pub with_log : (start : Start) (fields : Fields) (first history : History) (d c : Image) (batches : List Batch) → IsFound start fields first d
     → KeepsOthers Log d c → HasLog (c Log) batches → acts_of_batches batches ≡ history → IsSoundHistory start history → IsFound start fields history c
@@ -94,6 +102,27 @@ with_log start fields first history d c batches found keeps has is sound =
       no_copy = found.no_copy;
     }
 
--- a new volume
+-- ---- a new volume
+
+-- nothing is to be undone in a log without records
 pub fresh_is_found : FreshIsFound
-fresh_is_found pages c fresh = record { batches = []; history_is = refl; sound = fresh_is_sound IsKept pages c (tt, tt) fresh; no_copy = refl }
+fresh_is_found = record {
+  found = λ pages c fresh. record { batches = []; history_is = refl; sound = fresh_is_sound IsKept pages c (tt, tt) fresh; no_copy = refl };
+  opens = λ pages sessions. record {
+    restarted = record { undone = []; undoes_all = refl; ends_all = refl };
+    run = record {
+      opening = record {
+        legal = tt;
+        finished = λ txn none. absurd none;
+        right = λ page. refl;
+        fresh = λ txn none. absurd none;
+        some = omega arith;
+        ids = omega arith;
+        room = omega arith;
+      };
+      runs = (refl, refl);
+    };
+    limit = omega arith;
+    no_checkpoint = tt;
+  };
+}

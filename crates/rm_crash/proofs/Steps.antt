@@ -5,7 +5,7 @@ use Rattle.std.proofs.Common.{inl, inr, refl, sym, subst, ◌∙◌, arith}
 use Rattle.rm_types.specs.declared.formats.Format.{Format}
 use Rattle.rm_types.specs.declared.numbers.Rid.{Rid}
 use Rattle.rm_history.specs.declared.TheConstants.{BATCH_HEADER}
-use Rattle.rm_history.specs.Acts.{Act, Change, Undo, Finish, History, changes, undoes, enters, commits, ends, marks, lsn_of, newest_lsn}
+use Rattle.rm_history.specs.Acts.{Act, Change, Undo, Finish, History, changes, undoes, enters, ends, lsn_of, newest_lsn}
 use Rattle.rm_history.specs.Batched.{IsBelow, AreBelow}
 use Rattle.rm_history.specs.Contents.{entry_of}
 use Rattle.rm_history.specs.Legal.{IsLegal}
@@ -37,11 +37,7 @@ changed_below : (pages : ℕ) (history : History) (txn : ℕ) (rid : Rid) → Ar
 changed_below pages [] txn rid all has = absurd has
 changed_below pages (changes c ∷ before) txn rid all (inl now) = subst (λ (r : Rid). r.page < pages) now.1 all.0
 changed_below pages (changes c ∷ before) txn rid all (inr earlier) = changed_below pages before txn rid all.1 earlier
-changed_below pages (undoes u ∷ before) txn rid all has = changed_below pages before txn rid all.1 has
-changed_below pages (enters e ∷ before) txn rid all has = changed_below pages before txn rid all.1 has
-changed_below pages (commits f ∷ before) txn rid all has = changed_below pages before txn rid all.1 has
-changed_below pages (ends f ∷ before) txn rid all has = changed_below pages before txn rid all.1 has
-changed_below pages (marks m ∷ before) txn rid all has = changed_below pages before txn rid all.1 has
+changed_below pages (act ∷ before) txn rid all has = changed_below pages before txn rid all.1 has
 
 -- also one that is pending
 pub last_below : (pages : ℕ) (history : History) (txn : ℕ) (last : Change) (rest : List Change) → AreBelow pages history

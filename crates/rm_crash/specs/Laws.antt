@@ -1,28 +1,40 @@
 -- What holds of each crash, in a run, in a restart, and in a run after a restart after a crash.
 use Rattle.std.specs.Prelude.{◌≡◌, ℕ, ◌^◌, ◌<◌, ◌≤◌, Bool, List, [], ◌++◌}
 use Rattle.rm_types.specs.declared.formats.Format.TheVariants.{One}
-use Rattle.rm_types.specs.declared.areas.Area.TheVariants.{Log}
+use Rattle.rm_types.specs.declared.areas.Area.TheVariants.{Master, Log}
 use Rattle.rm_types.specs.declared.numbers.TheConstants.{MAX_LOG}
 use Rattle.rm_outside.specs.Images.{Image, KeepsOthers}
 use Rattle.rm_master.specs.declared.fields.Fields.{Fields}
 use Rattle.rm_master.specs.Fields.{fresh_fields}
 use Rattle.rm_master.specs.Fresh.{IsFresh}
-use Rattle.rm_history.specs.Logs.{Batch, AreBatches}
+use Rattle.rm_master.specs.Slots.{HasFields}
+use Rattle.rm_history.specs.Logs.{Batch, AreBatches, HasLog}
 use Rattle.rm_history.specs.Acts.{History}
 use Rattle.rm_history.specs.Batched.{acts_of_batches}
 use Rattle.rm_history.specs.Transactions.{IsFinished, greatest_txn}
 use Rattle.rm_history.specs.Undoing.{Restarted}
 use Rattle.rm_core.specs.Below.{Actor}
-use Rattle.rm_core.specs.Names.{Event, IsAcknowledged, IsOpening, Machine, Move}
+use Rattle.rm_core.specs.Names.{Event, IsAcknowledged, IsOpening, Machine, Move, started}
 use Rattle.rm_play.specs.Words.{ByActors, Progress, StopsBy}
 use Rattle.rm_pool.specs.Journals.{Begins, IsBetween}
 use Rattle.rm_image.specs.Starts.{Start}
 use Rattle.rm_image.specs.Whole.{IsSoundWith}
 use Rattle.rm_crash.specs.Crashes.{IsFound, TellsNoCheckpoint, start_of, IsRunFrom, IsCrashImage, HasAcknowledged, IsRecovered}
 
--- A volume that was just made is found with an empty log.
-abbrev pub FreshIsFound : Type 0
-FreshIsFound = (pages : ℕ) (c : Image) → IsFresh pages c → IsFound (record { format = One; pages = pages }) (fresh_fields pages) [] c
+-- A volume that was just made is found with an empty log, with which the machine opens.
+pub record FreshIsFound : Type 0 where
+  pub found : (pages : ℕ) (c : Image) → IsFresh pages c → IsFound (record { format = One; pages = pages }) (fresh_fields pages) [] c
+  pub opens : (pages sessions : ℕ) → IsRunFrom [] (started (record {
+    setting = record { format = One; pages = pages; limit = MAX_LOG };
+    history = [];
+    sessions = sessions;
+    next = 1;
+  }))
+
+-- What is found is what the image is read as.
+abbrev pub FoundIsRead : Type 0
+FoundIsRead = (start : Start) (fields others : Fields) (history : History) (c : Image) (batches : List Batch) → IsFound start fields history c
+    → HasFields (c Master) others → HasLog (c Log) batches → (fields ≡ others) × (history ≡ acts_of_batches batches)
 
 -- What is found is sound, and its master names no checkpoint.
 abbrev pub FoundIsOfLog : Type 0

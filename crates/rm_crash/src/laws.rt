@@ -1,8 +1,8 @@
 //! The laws: what holds of each crash.
 
-ghost use Rattle.rm_crash.specs.Laws.{AcknowledgedStay, CrashImagesAreFound, FoundIsOfLog, FreshIsFound, RestartImagesAreFound, RestartedLogsOpen, RestartsRecover, ScriptsMakeNoCheckpoint};
+ghost use Rattle.rm_crash.specs.Laws.{AcknowledgedStay, CrashImagesAreFound, FoundIsOfLog, FoundIsRead, FreshIsFound, RestartImagesAreFound, RestartedLogsOpen, RestartsRecover, ScriptsMakeNoCheckpoint};
 
-/// A volume that was just made is what an opening takes, with an empty log.
+/// A volume that was just made is what an opening takes, with an empty log, with which the machine opens.
 #[tactic(auto, using(crate::proofs::Images::fresh_is_found))]
 pub fn a_new_volume_is_found()
     ensures { FreshIsFound }
@@ -11,6 +11,11 @@ pub fn a_new_volume_is_found()
 /// What is found is sound, and its master names no checkpoint.
 pub fn what_is_found_is_of_its_log()
     ensures { FoundIsOfLog }
+{}
+
+/// An image is read as what is found in it.
+pub fn what_is_found_is_read()
+    ensures { FoundIsRead }
 {}
 
 /// The machine opens with the log that restart leaves.

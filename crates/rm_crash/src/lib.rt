@@ -11,5 +11,5 @@ mod laws;
 pub use laws::{
     a_new_volume_is_found, a_restart_recovers, a_restarted_log_opens,
     acknowledged_transactions_stay, crash_images_are_found, restart_images_are_found,
-    scripts_make_no_checkpoint, what_is_found_is_of_its_log,
+    scripts_make_no_checkpoint, what_is_found_is_of_its_log, what_is_found_is_read,
 };
