@@ -1,19 +1,22 @@
 -- The pages and blocks in memory after one more record.
-use Rattle.std.proofs.Common.{◌≡◌, ℕ, ◌/◌, ◌<◌, List, [], ◌∷◌, length, get_or, set, Option, Some, None, IfSome, option_map, refl, sym, ap, arith, rules}
+use Rattle.std.proofs.Common.{◌≡◌, ◌⊎◌, inl, inr, ℕ, ◌/◌, ◌<◌, ◌≤◌, List, [], ◌∷◌, length, get_or, set, Option, Some, None, IfSome, IsSomeAnd, option_map, refl, sym, ap, subst, arith, rules}
 use Rattle.std.proofs.lemmas.Option.{none-some, same_Some}
+use Rattle.rm_types.specs.declared.formats.TheConstants.{MAX_CATEGORY}
 use Rattle.rm_types.specs.declared.numbers.Rid.{Rid}
 use Rattle.rm_types.specs.declared.numbers.Lsn.{Lsn}
 use Rattle.rm_types.specs.declared.numbers.TheConstants.{BLOCK_PAGES}
 use Rattle.rm_types.specs.declared.slots.Slot.{Slot}
 use Rattle.rm_model.specs.Pages.{PageValue}
 use Rattle.rm_record.specs.declared.records.LogRecord.{LogRecord}
+use Rattle.rm_record.specs.declared.records.LogRecord.TheVariants.{Insert, Delete, Update, Compensate, Inventory, Commit, End, Checkpoint}
 use Rattle.rm_history.specs.Acts.{History, changes, undoes, enters, commits, ends, marks, act_at}
-use Rattle.rm_history.specs.Contents.{version_of, block_version_of}
+use Rattle.rm_history.specs.Contents.{page_of, version_of, block_version_of}
 use Rattle.rm_inventory.specs.Inventory.{InventoryValue}
 use Rattle.rm_apply.specs.declared.answers.Applied.{Applied}
-use Rattle.rm_apply.specs.Redo.{set_by, rid_of, ChangesPage, Redoes}
+use Rattle.rm_apply.specs.declared.answers.Applied.TheVariants.{Changed, Older}
+use Rattle.rm_apply.specs.Redo.{set_by, rid_of, CannotHave, ChangesPage, IsUnfit, Redoes}
 use Rattle.rm_apply.specs.Entries.{entered_by, ChangesBlock, RedoesEntry}
-use Rattle.rm_pool.specs.Frames.{EachIs, IsPageOf, IsBlockOf, AreFrames, IsAfter}
+use Rattle.rm_pool.specs.Frames.{FramesValue, EachIs, IsPageOf, IsBlockOf, AreFrames, CannotTake, IsAfter}
 
 -- the LSN of a later record is above those of the pages and of the blocks
 version_below : (history : History) (page lsn : ℕ) → IsAfter history lsn → version_of history page < lsn
@@ -107,3 +110,52 @@ pub frames_kept : (history : History) (what : LogRecord) (lsn : ℕ) (pages : Li
     → AreFrames history pages blocks page block → entered_by what ≡ None → rid_of what ≡ None → AreFrames (act_at lsn what ∷ history) pages blocks page block
 frames_kept history what lsn pages blocks page block was no_entry no_slot =
     search rules
+
+-- ---- what was repeated is what the file can have
+
+pub took_entry : (frames : FramesValue) (what : LogRecord) (page category : ℕ) → entered_by what ≡ Some (page, category) → page < frames.size
+    → category ≤ MAX_CATEGORY → CannotTake frames what → ⊥
+took_entry frames (Insert txn under rid need row) page category is inside within cannot = absurd cc
+took_entry frames (Delete txn under rid need old) page category is inside within cannot = absurd cc
+took_entry frames (Update txn under rid need old new) page category is inside within cannot = absurd cc
+took_entry frames (Compensate txn undone next rid back) page category is inside within cannot = absurd cc
+took_entry frames (Inventory txn p c) page category is inside within (inl cannot) = cannot
+took_entry frames (Inventory txn p c) page category is inside within (inr (inl past)) = let same : p ≡ page = ap (λ (x : ℕ × ℕ). x.0) (same_Some (p, c) (page, category) is) in omega (arith, same, past, inside)
+took_entry frames (Inventory txn p c) page category is inside within (inr (inr more)) = let same : c ≡ category = ap (λ (x : ℕ × ℕ). x.1) (same_Some (p, c) (page, category) is) in omega (arith, same, more, within)
+took_entry frames (Commit txn) page category is inside within cannot = absurd cc
+took_entry frames (End txn) page category is inside within cannot = absurd cc
+took_entry frames (Checkpoint next losers pages blocks) page category is inside within cannot = absurd cc
+
+pub took_none : (frames : FramesValue) (what : LogRecord) → entered_by what ≡ None → rid_of what ≡ None → CannotTake frames what → ⊥
+took_none frames (Insert txn under rid need row) none named cannot = absurd cc
+took_none frames (Delete txn under rid need old) none named cannot = absurd cc
+took_none frames (Update txn under rid need old new) none named cannot = absurd cc
+took_none frames (Compensate txn undone next rid back) none named cannot = absurd cc
+took_none frames (Inventory txn page category) none named cannot = absurd cc
+took_none frames (Commit txn) none named cannot = elim cannot [ inl set ↦ set | inr enter ↦ enter ]
+took_none frames (End txn) none named cannot = elim cannot [ inl set ↦ set | inr enter ↦ enter ]
+took_none frames (Checkpoint next losers pages blocks) none named cannot = elim cannot [ inl set ↦ set | inr enter ↦ enter ]
+
+fits_redone : (page : ℕ) (what : LogRecord) (lsn : Lsn) (applied : Applied) (old new : PageValue) → old.lsn.0 < lsn.0 → Redoes page old what lsn applied new
+    → IsUnfit old.slots what → ⊥
+fits_redone page what lsn Changed old new below redone unfit = redone.1 unfit
+fits_redone page what lsn Older old new below redone unfit = omega (arith, below, redone.0)
+
+pub took_slot : (frames : FramesValue) (what : LogRecord) (lsn : Lsn) (rid : Rid) (applied : Applied) (pages : List PageValue) (old new : PageValue)
+    → EachIs (IsPageOf frames.applied) pages → IsAfter frames.applied lsn.0 → entered_by what ≡ None → Some rid ≡ rid_of what → rid.page < length pages
+    → rid.page < frames.size → old ≡ get_or pages rid.page old → ((number : ℕ) → ChangesPage what number → Redoes number old what lsn applied new)
+    → CannotTake frames what → ⊥
+took_slot frames what lsn rid applied pages old new each after none named inside within read made (inr enter) =
+    subst (λ (o : Option (ℕ × ℕ)). IsSomeAnd o (λ entered. (frames.size ≤ entered.0) ⊎ (MAX_CATEGORY < entered.1)) → ⊥) (sym none) (λ nothing. nothing) enter
+took_slot frames what lsn rid applied pages old new each after none named inside within read made (inl cannot) =
+    let one : (slot : Slot) × (set_by what ≡ Some (rid, slot)) = set_with (set_by what) rid (sym named) in
+    let page : IsPageOf frames.applied rid.page old = subst (IsPageOf frames.applied rid.page) (sym read) (each rid.page old inside) in
+    let below : old.lsn.0 < lsn.0 = omega (arith, page.version, version_below frames.applied rid.page lsn.0 after) in
+    let fits = fits_redone rid.page what lsn applied old new below (made rid.page (rw one.1 refl)) in
+    let set : (frames.size ≤ rid.page) ⊎ CannotHave (page_of frames.applied rid.page) rid.slot one.0 =
+    subst (λ (o : Option (Rid × Slot)). IsSomeAnd o (λ set. (frames.size ≤ set.0.page) ⊎ CannotHave (page_of frames.applied set.0.page) set.0.slot set.1)) one.1 cannot in
+    elim set [
+      | inl past ↦ omega (arith, past, within)
+      | inr over ↦ fits (subst (λ (o : Option (Rid × Slot)). IsSomeAnd o (λ set. CannotHave old.slots set.0.slot set.1)) (sym one.1)
+          (subst (λ (slots : List Slot). CannotHave slots rid.slot one.0) (sym page.slots) over))
+    ]

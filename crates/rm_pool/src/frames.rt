@@ -281,6 +281,7 @@ impl Frames {
     pub fn repeat(&mut self, what: &LogRecord, lsn: Lsn) -> Result<(), ApplyRefused>
         requires { IsAfter self.old.applied lsn.0 }
         ensures ok { OnOk result (self.new ≡ repeated self.old what.now lsn.0) }
+        ensures takes { OnOk result (CannotTake self.old what.now → ⊥) }
         ensures unfit { IfErr result (λ e. e ≡ refused.Unfit → CannotTake self.old what.now) }
         ensures memory { IfErr result (λ e. e ≡ refused.NoMemory → CannotTake self.old what.now → ⊥) }
         ensures err { OnErr result (self.new ≡ self.old) }

@@ -92,6 +92,7 @@ pub fn change_at<V: Volume>(
     ensures inside { IfOk result (λ pending. pending.rid.page < store.old.frames.size) }
     ensures back { IfOk result MayGoBack }
     ensures damaged { IfErr result (IsDamageAt lsn (OfChange (V.models_content store.new.journal.volume) store.old.journal.history txn lsn (IsAstray lsn store.old.frames.size))) }
+    ensures modelled { V.models_content store.new.journal.volume → V.models_content store.old.journal.volume }
     ensures cause { StoreFailsIn V.Volume Area.Log store.old.journal.opened store.new.journal.volume result }
     ensures same { store.new ≡ on_volume store.old store.new.journal.volume }
 {

@@ -77,6 +77,7 @@ fn write<V: Volume>(store: &mut Store<V>, what: LogRecord, lsn: Lsn) -> Result<L
     ensures lsn { IfOk result (λ lsn. lsn.0 ≡ next_of store.old) }
     ensures ok { OnOk result (store.new ≡ written store.old what) }
     ensures err { OnErr result (store.new ≡ store.old) }
+    ensures volume { store.new.journal.volume ≡ store.old.journal.volume }
     ensures damaged { IfErr result (IsDamageAt lsn (CannotWrite store.old what)) }
     ensures cause { StoreFailsIn V.Volume Log store.old.journal.opened store.new.journal.volume result }
 {
@@ -110,6 +111,7 @@ pub fn undo_settle<V: Volume>(
     ensures settles { IfOk result (λ entered. OfChange (V.models_content store.new.journal.volume) store.old.journal.history txn lsn
         (λ c. SettlesFor format c store.old.journal.history entered store.new.journal.history)) }
     ensures err { OnErr result (IsStill store.old store.new) }
+    ensures modelled { V.models_content store.new.journal.volume → V.models_content store.old.journal.volume }
     ensures known { OnErr result (store.new.journal.is_known ≡ store.old.journal.is_known) }
     ensures damaged { IfErr result (IsDamageAt lsn (OfChange (V.models_content store.new.journal.volume) store.old.journal.history txn lsn (CannotSettle format txn lsn store.old))) }
     ensures cause { StoreFailsIn V.Volume Log store.old.journal.opened store.new.journal.volume result }
@@ -151,6 +153,7 @@ pub fn undo_change<V: Volume>(
     ensures undoes { IfOk result (λ undone. OfChange (V.models_content store.new.journal.volume) store.old.journal.history txn lsn
         (λ c. CompensatedFor c (next_of store.old) store.old.journal.history undone store.new.journal.history)) }
     ensures err { OnErr result (IsStill store.old store.new) }
+    ensures modelled { V.models_content store.new.journal.volume → V.models_content store.old.journal.volume }
     ensures known { OnErr result (store.new.journal.is_known ≡ store.old.journal.is_known) }
     ensures damaged { IfErr result (IsDamageAt lsn (OfChange (V.models_content store.new.journal.volume) store.old.journal.history txn lsn (CannotUndo txn lsn store.old))) }
     ensures cause { StoreFailsIn V.Volume Log store.old.journal.opened store.new.journal.volume result }

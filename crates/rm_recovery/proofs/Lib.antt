@@ -1,0 +1,10 @@
+pub mod Members
+pub mod Tables
+pub mod Rising
+pub mod Stages
+pub mod Steps
+pub mod Stops
+pub mod Stores
+pub mod Openings
+pub mod Soundness
+pub mod Fitness
