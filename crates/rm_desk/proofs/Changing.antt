@@ -1,10 +1,10 @@
 -- The tables stand for the sessions after a change of a slot.
-use Rattle.rm_desk.proofs.Names.{◌≡◌, ℕ, ◌+◌, ◌-◌, ◌<◌, ◌≤◌, ◌↔◌, ◌⊎◌, inl, inr, false, true, List, [], ◌∷◌, map, length, Option, Some, None, option_map, slice_set, refl, sym, ap, subst}
-use Rattle.rm_desk.proofs.Names.{◌∙◌, arith, nat_tests, cases_eq, eq-eqb, ne_eqb, IsSome, Lsn, row_length, sum_below-same, Change, History, changes, newest_lsn, need_of, Fits, FitsOn}
+use Rattle.rm_desk.proofs.Names.{◌≡◌, ℕ, ◌+◌, ◌-◌, ◌<◌, ◌≤◌, ◌↔◌, ◌⊎◌, inl, inr, false, true, List, ◌∷◌, map, length, Option, Some, None, option_map, refl, sym, ap}
+use Rattle.rm_desk.proofs.Names.{◌∙◌, arith, nat_tests, cases_eq, eq-eqb, ne_eqb, Lsn, row_length, sum_below-same, Change, History, changes, newest_lsn, need_of, Fits, FitsOn}
 use Rattle.rm_desk.proofs.Names.{pending_of, need_of-change, need_of-change_other, pending_on-change, pending-change, pending-change_other, last_is_inside}
 use Rattle.rm_desk.proofs.Names.{staged, Seat, seat_at, Reserved, need_in, HasEntry, with_need, HasRoom, IsOther, Txn, Table, txn_of, ChangesOnly, HasId}
 use Rattle.rm_desk.proofs.Names.{after_push, Stage, Setting, Sessions, Tables, is_over, IsOfFile, seat_from, pending_by, stage_at, goes, logged, IsOn, Accounts, Goes, MAX_SLOT}
-use Rattle.rm_desk.proofs.Names.{StackValue, PendingChange, stack_at, SetsStack, noted_of, owed_in, owed_by, bytes_for, TXN_BYTES, page_of, used, Rid, Slot, Vacant, Row, slot_at}
+use Rattle.rm_desk.proofs.Names.{StackValue, PendingChange, stack_at, SetsStack, noted_of, owed_in, owed_by, TXN_BYTES, page_of, Rid, Slot, Vacant, Row, slot_at}
 use Rattle.rm_desk.proofs.Names.{State, slot_for, new_slot, row_in, length_in, Op, fitting_is_room, change_of}
 use Rattle.rm_desk.proofs.Names.{unwrap_or, asked_by, last_of, ForSome, OWED, ◌^◌}
 use Rattle.std.specs.Prelude.{nat_le, MatchOption, Bool}

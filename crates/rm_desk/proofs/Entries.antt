@@ -3,8 +3,8 @@ use Rattle.rm_desk.proofs.Names.{◌≡◌, ◌≤◌, ℕ, ◌↔◌, ◌⊎◌
 use Rattle.rm_desk.proofs.Names.{unwrap_or, IfSome, IfNone, refl, subst, arith, nat_tests, cond_both, false≢true, Mode}
 use Rattle.rm_desk.proofs.Names.{Rid, TxnId, MAX_SLOT, HasGrant, HoldsAlone, Blocks, has_it, joined, released, Grant, joined_any, joined_alone}
 use Rattle.rm_desk.proofs.Names.{more-released, released-less, alone_has, LockTable, mode_in, entry_in, Holds, is_exclusive, IsLeastBlocker, is_same_lock}
-use Rattle.rm_desk.proofs.Names.{raised, Grants, Releases, same_lock, is_alone, IsFree, IsRefused, IsLeastHolder, IsHeld, blocker, number_in, ◌<◌, cases_lt}
-use Rattle.rm_desk.proofs.Names.{Exclusive, IsSlotForRow, sym, ap, Slot, Vacant, slot_at, State, Seat, slot_for, page_of}
+use Rattle.rm_desk.proofs.Names.{raised, Grants, Releases, same_lock, is_alone, IsFree, IsLeastHolder, IsHeld, blocker, number_in, cases_lt}
+use Rattle.rm_desk.proofs.Names.{Exclusive, IsSlotForRow, ap, Slot, State, Seat, slot_for, page_of}
 use Rattle.rm_desk.specs.Granted.{Stands}
 use Rattle.rm_play.proofs.Finding.{IsLeast, Keeps, blocker_is_least, slot_is_for_row}
 use Rattle.rm_locks.specs.LockTable.{HoldsAlone as IsExclusive, IsFree as IsFreeIn, Blocks as BlocksIn}

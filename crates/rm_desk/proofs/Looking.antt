@@ -1,8 +1,8 @@
 -- What the tables tell of a session.
-use Rattle.rm_desk.proofs.Names.{◌≡◌, ℕ, zero, suc, ◌+◌, ◌-◌, ◌<◌, ◌≤◌, ◌⊎◌, inl, inr, if◌then◌else◌, ◌==◌, Bool, true, false, List, [], ◌∷◌, map, length, Option, Some, None}
-use Rattle.rm_desk.proofs.Names.{IfSome, refl, sym, ap, subst, ◌∙◌, arith, nat_tests, cases_eq, cases_lt, eq-eqb, Setting, Sessions, Tables, seat_at, Change, pending_of, last_of}
+use Rattle.rm_desk.proofs.Names.{◌≡◌, ℕ, zero, suc, ◌+◌, ◌<◌, ◌≤◌, inl, inr, if◌then◌else◌, ◌==◌, Bool, true, false, List, [], ◌∷◌, map, length, Option, Some, None}
+use Rattle.rm_desk.proofs.Names.{IfSome, refl, sym, ap, subst, ◌∙◌, arith, nat_tests, cases_eq, cases_lt, Setting, Sessions, Tables, seat_at, Change, pending_of, last_of}
 use Rattle.rm_desk.proofs.Names.{need_of, others_need, need_in, with_need, greatest_txn, need_for, on_page, sum_below, sum_below-same, CAPACITY, AreKept, IsInside, stack_at}
-use Rattle.rm_desk.proofs.Names.{PendingChange, first_of, rest_of, top_of, noted_of, newest_in, under_in, first_from, used, page_of}
+use Rattle.rm_desk.proofs.Names.{PendingChange, first_of, rest_of, top_of, noted_of, newest_in, under_in, first_from}
 use Rattle.rm_model.proofs.Sums.{sum_below-at}
 use Rattle.rm_desk.specs.Desks.{Stands}
 use Rattle.rm_desk.proofs.Keeping.{pending_past}

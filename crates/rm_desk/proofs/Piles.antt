@@ -1,5 +1,5 @@
 -- A stack is kept with its newest change last.
-use Rattle.rm_desk.proofs.Names.{◌≡◌, ℕ, ◌<◌, ◌-◌, ◌+◌, ◌≤◌, List, [], ◌∷◌, length, refl, sym, ap, ◌∙◌, arith, Lsn, PendingChange, rest_of, top_of}
+use Rattle.rm_desk.proofs.Names.{◌≡◌, ◌<◌, ◌-◌, ◌≤◌, List, [], ◌∷◌, length, refl, sym, ap, ◌∙◌, arith, PendingChange, rest_of, top_of}
 use Rattle.std.proofs.Common.{reverse, get_or}
 use Rattle.std.proofs.lemmas.List.{get_or-reverse, length-reverse}
 

@@ -1,13 +1,12 @@
 -- Room on pages and in the log.
-use Rattle.rm_desk.proofs.Names.{◌≡◌, ℕ, ◌+◌, ◌-◌, ◌<◌, ◌≤◌, ◌↔◌, IsTrue, Bool, true, false, List, [], ◌∷◌, length, Option, Some, None, refl, sym, ap, ◌∙◌, arith, nat_tests}
-use Rattle.rm_desk.proofs.Names.{Rid, Slot, Vacant, Row, row_length, Setting, Sessions, Tables, seat_at, Seat, owed_in, owed_by, begun, bytes_for, TXN_BYTES, pending_of, idle}
+use Rattle.rm_desk.proofs.Names.{◌≡◌, ℕ, ◌+◌, ◌<◌, ◌≤◌, ◌↔◌, Bool, List, [], ◌∷◌, length, Some, None, refl, sym, ◌∙◌, arith, nat_tests}
+use Rattle.rm_desk.proofs.Names.{Rid, Slot, Vacant, Row, row_length, Setting, Sessions, Tables, seat_at, Seat, owed_in, owed_by, begun, TXN_BYTES, pending_of, idle}
 use Rattle.std.proofs.Common.{length-append}
 use Rattle.rm_record.specs.Records.{spelling, row_bytes}
 use Rattle.rm_core.specs.Names.{change_record}
-use Rattle.rm_desk.proofs.Names.{PendingChange, Change, History, newest_in, last_in, others_need, page_of, used, set_slot, undo_fits, CAPACITY, last_is_of, option_map, slot_at}
-use Rattle.rm_desk.proofs.Names.{Reserved, HasEntry, IsOther, cases_eq, inl, inr, subst, StackValue, SetsStack, stack_at, Op, new_slot, length_in, IfSome, State, View}
-use Rattle.std.specs.Prelude.{nat_le, Result, Ok, Err, OnOk, OnErr, MatchOption, option_copied}
-use Rattle.std.specs.Borrow.{Bor}
+use Rattle.rm_desk.proofs.Names.{PendingChange, Change, History, newest_in, last_in, others_need, page_of, used, set_slot, undo_fits, CAPACITY, last_is_of}
+use Rattle.rm_desk.proofs.Names.{Reserved, HasEntry, IsOther, cases_eq, inl, inr, subst, StackValue, SetsStack, stack_at, length_in, IfSome}
+use Rattle.std.specs.Prelude.{nat_le, Result, Ok, Err, OnOk, OnErr, MatchOption}
 use Rattle.rm_model.specs.Pages.{row_of}
 use Rattle.rm_desk.specs.Desks.{Stands}
 use Rattle.rm_desk.proofs.Standing.{owed_moves}

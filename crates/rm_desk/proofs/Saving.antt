@@ -1,9 +1,9 @@
 -- The tables stand for the sessions after a savepoint is set, and gone back to.
-use Rattle.rm_desk.proofs.Names.{◌≡◌, ℕ, if◌then◌else◌, find, ◌+◌, ◌<◌, false, List, [], ◌∷◌, map, length, Option, Some, None, IsSome, IfSome, option_map}
-use Rattle.rm_desk.proofs.Names.{slice_set, refl, sym, ap, subst, arith, nat_tests, ForSome, Lsn, Setting, Sessions, Tables}
+use Rattle.rm_desk.proofs.Names.{◌≡◌, ℕ, ◌+◌, ◌<◌, false, List, [], ◌∷◌, map, length, Option, Some, None, IsSome, IfSome, option_map}
+use Rattle.rm_desk.proofs.Names.{refl, sym, ap, subst, arith, nat_tests, ForSome, Lsn, Setting, Sessions, Tables}
 use Rattle.rm_desk.proofs.Names.{pending_of, last_of, dropped, upto, idle, rolls, returns, seat_at, Savepoint, Txn, HasId}
-use Rattle.rm_desk.proofs.Names.{is_of, without, place_of, back_to, Table, txn_of, ChangesOnly, after_save, after_back, Idle, Rolls, is_over}
-use Rattle.rm_desk.proofs.Names.{saves_of, seat_from, pending_by, stage_at, saved, rewound, saved_in, Accounts, SetsStack, noted_of, ◌∙◌}
+use Rattle.rm_desk.proofs.Names.{without, place_of, back_to, Table, txn_of, ChangesOnly, after_save, after_back, Idle, Rolls, is_over}
+use Rattle.rm_desk.proofs.Names.{saves_of, seat_from, pending_by, stage_at, saved, rewound, saved_in, Accounts, noted_of, ◌∙◌}
 use Rattle.rm_core.specs.Names as core
 use Rattle.rm_ops.specs.declared.stages.Aim.TheVariants as aims
 use Rattle.rm_desk.specs.Desks.{Stands}

@@ -1,18 +1,17 @@
 -- The tables stand for the sessions after a move of one of them.
-use Rattle.rm_desk.proofs.Names.{◌≡◌, ℕ, ◌+◌, ◌<◌, ◌≤◌, ◌⊎◌, ◌↔◌, option_map, inl, inr, if◌then◌else◌, ◌==◌, List, [], ◌∷◌, map, length, slice_set, Option, Some}
-use Rattle.rm_desk.proofs.Names.{None, IsSome, IfSome, false, refl, sym, ap, subst, ◌∙◌, arith, nat_tests, cases_eq, cases_lt, length-set, slice_index_or}
-use Rattle.rm_desk.proofs.Names.{get_or-set_same, get_or-set_other, get_or_past, Lsn, TxnId, MAX_SESSIONS, sum_below, sum_below-one, sum_below-same, Change}
-use Rattle.rm_desk.proofs.Names.{Finish, History, commits, ends, newest_lsn, need_of, need_for, on_page, others_need, greatest_txn}
+use Rattle.rm_desk.proofs.Names.{◌≡◌, ℕ, ◌+◌, ◌<◌, ◌≤◌, ◌⊎◌, ◌↔◌, option_map, inl, inr, if◌then◌else◌, List, [], ◌∷◌, map, length, slice_set, Option, Some}
+use Rattle.rm_desk.proofs.Names.{None, IsSome, IfSome, refl, sym, ap, subst, ◌∙◌, arith, nat_tests, cases_eq, cases_lt, length-set, slice_index_or}
+use Rattle.rm_desk.proofs.Names.{get_or-set_same, get_or-set_other, get_or_past, TxnId, MAX_SESSIONS, sum_below, sum_below-one, Change}
+use Rattle.rm_desk.proofs.Names.{Finish, History, commits, ends, newest_lsn, need_of, need_for, on_page}
 use Rattle.rm_desk.proofs.Names.{pending-commit, pending-commit_other, pending-end, pending-end_other, pending_of}
-use Rattle.rm_desk.proofs.Names.{last_of, staged, TXN_BYTES, owes_at, owed_by, Seat, seat_at, empty_seat, idle, forces, Reserved, need_in, Setting, Op, Unbound}
-use Rattle.rm_desk.proofs.Names.{HasEntry, with_need, Txn, Table, txn_of, owed_of, ChangesOnly, HasId, HaveOwnIds, after_commit, Stage, Idle, Forces, IsOfFile}
+use Rattle.rm_desk.proofs.Names.{staged, TXN_BYTES, owes_at, owed_by, Seat, seat_at, empty_seat, idle, forces, Reserved, need_in, Setting, Op, Unbound}
+use Rattle.rm_desk.proofs.Names.{HasEntry, Txn, Table, txn_of, owed_of, ChangesOnly, HasId, HaveOwnIds, after_commit, Stage, Idle, Forces, IsOfFile}
 use Rattle.rm_desk.proofs.Names.{stage_with, Sessions, Tables, is_over, seat_from, pending_by, stage_at, goes, seated, begun, committed, ended, owed_in, IsOn, Accounts, Sits}
-use Rattle.rm_desk.proofs.Names.{IsKept, StackValue, PendingChange, stack_at, SetsStack, noted_of, IsOther}
+use Rattle.rm_desk.proofs.Names.{IsKept, StackValue, PendingChange, stack_at, SetsStack, noted_of}
 use Rattle.rm_core.specs.Names as core
-use Rattle.rm_txns.specs.Tables.{owed_by as total_of}
 use Rattle.rm_txns.specs.Transactions.{begun as begun_txn}
 use Rattle.rm_desk.specs.Desks.{Stands}
-use Rattle.rm_desk.proofs.Keeping.{pending_past, next_kept, commit_kept, end_kept}
+use Rattle.rm_desk.proofs.Keeping.{next_kept, commit_kept, end_kept}
 
 owes_is : (stage : core.Stage) (bytes : ℕ) → owes_at stage bytes ≡ (if is_over stage then 0 else TXN_BYTES + bytes)
 owes_is stage bytes = grind (arith, nat_tests)

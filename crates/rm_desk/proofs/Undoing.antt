@@ -1,18 +1,18 @@
 -- The tables stand for the sessions after a change is undone.
-use Rattle.rm_desk.proofs.Names.{◌≡◌, ℕ, ◌+◌, ◌≤◌, ◌<◌, inl, false, true, List, [], ◌∷◌, map, length, Option, Some, None, IfSome, option_map, slice_set, refl, sym, ap}
-use Rattle.rm_desk.proofs.Names.{subst, ◌∙◌, arith, nat_tests, ForSome, Lsn, TxnId, row_length, Change, Undo, History, undoes, newest_lsn, Slot, CAPACITY}
+use Rattle.rm_desk.proofs.Names.{◌≡◌, ℕ, ◌+◌, ◌≤◌, ◌<◌, inl, false, true, List, [], ◌∷◌, map, length, Option, Some, None, IfSome, option_map, refl, sym, ap}
+use Rattle.rm_desk.proofs.Names.{subst, ◌∙◌, arith, nat_tests, ForSome, Lsn, row_length, Change, Undo, History, undoes, newest_lsn, Slot, CAPACITY}
 use Rattle.rm_desk.proofs.Names.{need_of, need_for, on_page, others_need, FitsOn, pending_of, undo_for, last_is_of, used, set_slot, page_of, undo_fits}
-use Rattle.rm_desk.proofs.Names.{need_of-undo_other, pending_of-undo, pending_on-undo, pending-undo_other, staged, TXN_BYTES, bytes_for, rolls}
-use Rattle.rm_desk.proofs.Names.{Seat, seat_at, Reserved, need_in, HasEntry, HasRoom, Txn, OWED, Table, txn_of, ChangesOnly, HasId, after_pop, Setting, Sessions, Tables}
-use Rattle.rm_desk.proofs.Names.{Stage, Rolls, Aim, aim_with, is_over, seat_from, pending_by, stage_at, goes, undone, IsOn, IsAccounted, Accounts, AreKept, StackValue, PendingChange}
-use Rattle.rm_desk.proofs.Names.{stack_at, SetsStack, noted_of, first_of, rest_of, top_of, newest_in, under_in, Op, Unbound, slice_index_or, prepared, Compensates, enters, entry_for}
+use Rattle.rm_desk.proofs.Names.{need_of-undo_other, pending_of-undo, pending_on-undo, pending-undo_other, TXN_BYTES, bytes_for}
+use Rattle.rm_desk.proofs.Names.{seat_at, Reserved, need_in, HasEntry, HasRoom, Txn, OWED, Table, txn_of, ChangesOnly, HasId, after_pop, Setting, Sessions, Tables}
+use Rattle.rm_desk.proofs.Names.{Rolls, Aim, aim_with, is_over, seat_from, pending_by, stage_at, undone, IsOn, IsAccounted, Accounts, AreKept, StackValue, PendingChange}
+use Rattle.rm_desk.proofs.Names.{stack_at, SetsStack, noted_of, first_of, rest_of, newest_in, under_in, Unbound, slice_index_or, prepared, Compensates, enters, entry_for}
 use Rattle.std.proofs.lemmas.Bool.{leb-true}
 use Rattle.rm_model.proofs.Slots.{used-set_slot}
 use Rattle.rm_core.specs.Names as core
 use Rattle.rm_desk.specs.Desks.{Stands}
 use Rattle.rm_desk.proofs.Keeping.{undo_kept, undo_fits_on, enter_kept}
-use Rattle.rm_desk.proofs.Standing.{with_op, moved_to, moved, stays_keep, only_now, own_id, seat_now, has_txn, pending_is, IsIdOf, is_id, elsewhere, stage_is}
-use Rattle.rm_desk.proofs.Looking.{newest_is, under_is}
+use Rattle.rm_desk.proofs.Standing.{with_op, moved_to, moved, stays_keep, only_now, own_id, seat_now, IsIdOf, elsewhere, stage_is}
+use Rattle.rm_desk.proofs.Looking.{newest_is}
 use Rattle.rm_desk.proofs.Changing.{has_room, Sets}
 
 module _ (m : Setting) (t : Tables) (s : Sessions) (stands : Stands m t s) (k : ℕ) (known : k < length s.seats) where

@@ -1,5 +1,5 @@
 -- The sessions' part of the machine, and the tables that stand for it.
-use Rattle.std.specs.Prelude.{◌≡◌, ℕ, ◌+◌, ◌<◌, ◌≤◌, nat_le, if◌then◌else◌, Bool, true, false, ◌⊎◌, List, [], ◌∷◌, map, length}
+use Rattle.std.specs.Prelude.{◌≡◌, ℕ, ◌+◌, ◌<◌, ◌≤◌, nat_le, if◌then◌else◌, Bool, true, ◌⊎◌, List, [], ◌∷◌, map, length}
 use Rattle.std.specs.Prelude.{slice_index_or, slice_set, Option, Some, None}
 use Rattle.rm_types.specs.declared.numbers.TheConstants.{MAX_SESSIONS, MAX_PAGES, MAX_LOG}
 use Rattle.rm_core.specs.Below.{Format, Rid, Slot, CAPACITY, used, set_slot, sum_below, Act, Change, History, Fits, undoes, need_of, others_need, pending_of, last_of}
@@ -8,7 +8,7 @@ use Rattle.rm_core.specs.Names as core
 use Rattle.rm_core.specs.Names.{Seat, State, Grant, Setting, IsInside, dropped, upto, idle, rolls, returns, forces, seat_at, empty_seat, staged, bytes_for, owed_by}
 use Rattle.rm_core.specs.Room.{TXN_BYTES}
 use Rattle.rm_events.specs.declared.operations.Op.TheVariants.{Unbound}
-use Rattle.rm_history.specs.Acts.{changes, commits, ends}
+use Rattle.rm_history.specs.Acts.{commits, ends}
 use Rattle.rm_history.specs.Needs.{on_page, need_for}
 use Rattle.rm_locks.specs.LockTable.{LockTable, IsReady}
 use Rattle.rm_need.specs.Needs.{Reserved, need_in, HasEntry}

@@ -1,5 +1,5 @@
 -- The machine's grants, and the entries that stand for them.
-use Rattle.std.specs.Prelude.{◌≡◌, ℕ, ◌≤◌, ◌<◌, ◌↔◌, Bool, List}
+use Rattle.std.specs.Prelude.{◌≡◌, ℕ, ◌≤◌, ◌<◌, ◌↔◌, List}
 use Rattle.rm_types.specs.declared.modes.Mode.{Mode}
 use Rattle.rm_core.specs.Below.{Rid, MAX_SLOT}
 use Rattle.rm_core.specs.Names.{HasGrant, HoldsAlone, Blocks, Grant}

@@ -1,6 +1,6 @@
 use Rattle.rm_core.proofs.Sizes.{next_above}
-use Rattle.rm_desk.proofs.Names.{refl, sym, ap, ◌∙◌, subst, arith, change_of, seat_at, slot_at, page_of, new_slot, slice_index_or, Unbound, state_of, []}
-use Rattle.rm_desk.proofs.Standing.{has_txn, id_is, own_of, stage_is}
+use Rattle.rm_desk.proofs.Names.{refl, change_of, seat_at, slot_at, page_of, new_slot, slice_index_or, Unbound, state_of, []}
+use Rattle.rm_desk.proofs.Standing.{has_txn, id_is, own_of}
 use Rattle.rm_desk.proofs.Rooms.{length_is}
 use Rattle.rm_desk.proofs.Changing.{alter_fits, change_room, change_goes, change_keeps, push_room, sets_open, is_open}
 use Rattle.rm_desk.proofs.desk.Desk.altered.Goals as goal

@@ -1,8 +1,8 @@
 use Rattle.rm_core.proofs.Sizes.{next_above}
 use Rattle.rm_desk.proofs.Names.{refl}
 use Rattle.rm_desk.proofs.Keeping.{enter_kept}
-use Rattle.rm_desk.proofs.Standing.{stays_keep, stage_is}
-use Rattle.rm_desk.proofs.Names.{sym, ◌∙◌}
+use Rattle.rm_desk.proofs.Standing.{stays_keep}
+use Rattle.rm_desk.proofs.Names.{sym}
 use Rattle.rm_desk.proofs.desk.Desk.entered.Goals as goal
 
 pub invariant_of-self : goal.invariant_of-self

@@ -1,7 +1,7 @@
 use Rattle.rm_core.proofs.Sizes.{next_above}
-use Rattle.rm_desk.proofs.Names.{refl, sym, ap, ◌∙◌, subst, arith, change_of, seat_at, Vacant, Row, row_in, slice_index_or, Unbound, state_of}
-use Rattle.rm_desk.proofs.Standing.{has_txn, id_is, own_of, stage_is}
-use Rattle.rm_desk.proofs.Entries.{not_held, slot_free}
+use Rattle.rm_desk.proofs.Names.{refl, change_of, seat_at, Vacant, Row, row_in, slice_index_or, Unbound, state_of}
+use Rattle.rm_desk.proofs.Standing.{has_txn, id_is, own_of}
+use Rattle.rm_desk.proofs.Entries.{slot_free}
 use Rattle.rm_desk.proofs.Changing.{insert_fits, change_room, change_goes, change_keeps, push_room, tries_open, is_open, slot_inside}
 use Rattle.rm_desk.proofs.desk.Desk.inserted.Goals as goal
 

@@ -1,5 +1,5 @@
 use Rattle.rm_core.proofs.Sizes.{next_above}
-use Rattle.rm_desk.proofs.Names.{refl, sym, ap, ◌∙◌, PendingChange}
+use Rattle.rm_desk.proofs.Names.{refl, sym, ◌∙◌}
 use Rattle.rm_desk.proofs.Standing.{has_txn, id_is}
 use Rattle.rm_desk.proofs.Looking.{under_is}
 use Rattle.rm_desk.proofs.Undoing.{last_at, none_at, undo_has_room, may_restore, has_entry, undo_owes, undo_keeps}

@@ -1,5 +1,5 @@
-use Rattle.rm_desk.proofs.Names.{◌∙◌, ap, Lsn, PendingChange, arith}
-use Rattle.rm_desk.proofs.Piles.{under_in_items, none_in_items}
+use Rattle.rm_desk.proofs.Names.{◌∙◌, ap, PendingChange, arith}
+use Rattle.rm_desk.proofs.Piles.{under_in_items}
 use Rattle.rm_desk.proofs.stacks.Stack.under.Goals as goal
 
 pub returns : goal.returns
