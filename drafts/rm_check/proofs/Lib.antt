@@ -1,0 +1,4 @@
+pub mod Joins
+pub mod Looks
+pub mod Rows
+pub mod Settled

@@ -1,0 +1,13 @@
+mod ReadingLemmas
+mod RunningLemmas
+mod PlainLemmas
+mod OutputLemmas
+mod VolumeLemmas
+mod CommandLemmas
+mod TurnLemmas
+mod StandLemmas
+mod OpenedLemmas
+mod ScriptLemmas
+mod CompleteLemmas
+mod ImageExamples
+mod DueExamples

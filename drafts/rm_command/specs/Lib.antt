@@ -1,0 +1,11 @@
+pub mod Status
+pub mod Output
+pub mod Commands
+pub mod Reading
+pub mod Running
+pub mod Plain
+pub mod Volumes
+pub mod Turns
+pub mod Turning
+pub mod Due
+pub mod Complete

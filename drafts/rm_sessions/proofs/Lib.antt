@@ -1,0 +1,4 @@
+pub mod Stores
+pub mod Engines
+pub mod Fitting
+pub mod Opening

@@ -1,0 +1,4 @@
+pub mod Names
+pub mod Standing
+pub mod Running
+pub mod Prints
