@@ -1,4 +1,0 @@
-pub mod Joins
-pub mod Looks
-pub mod Rows
-pub mod Settled

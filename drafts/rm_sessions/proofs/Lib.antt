@@ -1,4 +1,0 @@
-pub mod Stores
-pub mod Engines
-pub mod Fitting
-pub mod Opening
