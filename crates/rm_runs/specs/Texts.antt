@@ -11,7 +11,7 @@ use Rattle.rm_script.specs.Texts.{turn_line, waits_line, unfinished_line}
 abbrev pub printed_of : Actor → Seen → Option Outcome → List ℕ
 printed_of (Session k) seen (Some outcome) = turn_line k (reply_of outcome)
 printed_of (Session k) (sees.Waits rid holder) None = waits_line k holder.0
-printed_of actor seen done = []
+printed_of actor seen outcome = []
 
 abbrev pub event_text : Event → List ℕ
 event_text event = printed_of event.actor event.seen event.done
